@@ -1,0 +1,12 @@
+mod Giving
+mod Fields
+mod Parts
+mod LoadLines
+mod Taking
+mod CommandWords
+mod SessionLines
+mod CommandLines
+mod Moving
+mod Empty
+mod Reached
+mod Ending

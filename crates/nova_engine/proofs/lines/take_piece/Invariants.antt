@@ -1,0 +1,16 @@
+use Rattle.std.proofs.Common.{◌≡◌, ◌+◌, ◌++◌, ◌≤◌, List, ℕ, length}
+use Rattle.nova_engine.specs.Moves.{MovesOn}
+use Rattle.nova_engine.specs.Standing.{line_count}
+use Rattle.nova_engine.proofs.lines.take_piece.Given as goal
+
+abbrev pub invariant-loop-line : goal.invariant-loop-line
+invariant-loop-line g l = record {
+  done : List ℕ;
+  all : l.bytes ≡ done ++ l.rest;
+  moves : MovesOn g.H.Host.is_honest l.fn.reader l.reader (g.H.Host.history l.fn.host) (g.H.Host.history l.host) done;
+  room : l.reader.session.store.version + line_count l.reader.session.load ≤ l.fn.reader.session.store.version + line_count l.fn.reader.session.load + length done;
+  later : g.H.Host.reply_faults l.fn.host ≤ g.H.Host.reply_faults l.host;
+}
+
+abbrev pub decreases-loop-line : goal.decreases-loop-line
+decreases-loop-line g l = length l.rest

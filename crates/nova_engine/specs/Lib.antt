@@ -1,0 +1,9 @@
+pub mod Buffered
+pub mod Flow
+pub mod Words
+pub mod Positions
+pub mod Steps
+pub mod Standing
+pub mod Moves
+pub mod Status
+pub mod Ends

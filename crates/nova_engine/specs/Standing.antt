@@ -1,0 +1,103 @@
+-- What the store and the load in memory stand for.
+use Rattle.std.specs.Prelude.{◌≡◌, ℕ, ◌<◌, Bool, true, false, List, [], ◌∷◌, length, Option, Some, None, Ok, Err}
+use Rattle.nova_value.specs.declared.schema.Entry.{Entry}
+use Rattle.nova_delta.specs.Merge.{DeltaValue}
+use Rattle.nova_outside.specs.History.{Event}
+use Rattle.nova_outside.specs.Replies.{Gives}
+use Rattle.nova_machine.specs.State.{State, newest, newest_table}
+use Rattle.nova_machine.specs.Steps.{Step, after_all, load_delta}
+use Rattle.nova_machine.specs.Commands.{Command, WithRows, read_rows, behind_first, steps}
+use Rattle.nova_machine.specs.Replies.{text}
+use Rattle.nova_engine.specs.declared.load.Pending.{Pending}
+use Rattle.nova_engine.specs.declared.load.Pending.TheVariants.{NotBuilt, BadRow, Rows}
+use Rattle.nova_engine.specs.declared.session.Session.{Session}
+use Rattle.nova_engine.specs.declared.stop.Stop.{Stop}
+use Rattle.nova_engine.specs.declared.store.Store.{Store}
+use Rattle.nova_engine.specs.Flow.{raw_flow, raw_schema}
+use Rattle.nova_engine.specs.Positions.{Loading, with_row, load_after, ended_by}
+use Rattle.nova_engine.specs.Steps.{StopsIn}
+use Rattle.nova_engine.specs.Words.{names_raw}
+
+-- the store holds the newest version of the one channel
+pub record StandsFor (store : Store) (s : State) : Type 0 where
+  pub flow : s.flow ≡ raw_flow
+  pub kept : 0 < length s.channels
+  pub version : newest s 0 ≡ store.version
+  pub table : newest_table s 0 ≡ store.table
+
+-- the delta that the entries of a load make
+abbrev pub raw_delta : List Entry → DeltaValue
+raw_delta entries = record { schema = raw_schema; entries = load_delta raw_schema entries }
+
+-- the lines of a load are rows, and the delta is theirs
+pub record AreRead (rows : List (List ℕ)) (delta : DeltaValue) (lines : ℕ) : Type 0 where
+  pub entries : List Entry
+  pub read : read_rows raw_schema 1 rows ≡ Ok entries
+  pub made : delta ≡ raw_delta entries
+  pub counted : lines ≡ length rows
+
+-- what is kept of a load stands for its words and lines
+abbrev pub StandsForLoad : Pending → Loading → Type 0
+StandsForLoad NotBuilt load = names_raw (behind_first load.words) ≡ false
+StandsForLoad (BadRow line) load = (names_raw (behind_first load.words) ≡ true) × (read_rows raw_schema 1 load.rows ≡ Err line)
+StandsForLoad (Rows rows) load = (names_raw (behind_first load.words) ≡ true) × AreRead load.rows rows.delta rows.lines
+
+abbrev pub StandsForPending : Option Pending → Option Loading → Type 0
+StandsForPending None None = Unit {0}
+StandsForPending None (Some load) = ⊥
+StandsForPending (Some pending) None = ⊥
+StandsForPending (Some pending) (Some load) = StandsForLoad pending load
+
+-- rows with this delta, from so many lines
+abbrev pub HasRows : Pending → DeltaValue → ℕ → Type 0
+HasRows NotBuilt delta lines = ⊥
+HasRows (BadRow line) delta lines = ⊥
+HasRows (Rows rows) delta lines = (rows.delta ≡ delta) × (rows.lines ≡ lines)
+
+-- a load without lines
+abbrev pub Begins : Bool → Pending → Type 0
+Begins is_raw new = (words : List (List ℕ)) → names_raw (behind_first words) ≡ is_raw → StandsForLoad new (record { words = words; rows = [] })
+
+-- a line more of a load
+abbrev pub TakesLine : Pending → Pending → List ℕ → Type 0
+TakesLine old new line = (load : Loading) → StandsForLoad old load → StandsForLoad new (with_row load line)
+
+-- how many lines a load has, where they are counted
+abbrev pub line_count : Option Pending → ℕ
+line_count None = 0
+line_count (Some NotBuilt) = 0
+line_count (Some (BadRow line)) = 0
+line_count (Some (Rows rows)) = rows.lines
+
+-- these steps were taken from a state, and the store stands for where they led
+pub record Takes (is_honest : Bool) (s : State) (xs : List Step) (new : Store) (a b : List Event) : Type 0 where
+  pub stands : StandsFor new (after_all s xs)
+  pub gives : Gives is_honest a b (text s xs)
+
+-- the steps of a command were taken, from each state that the store stood for
+abbrev pub TakesCommand : Bool → Store → List Command → Store → List Event → List Event → Type 0
+TakesCommand is_honest old cs new a b = (s : State) → StandsFor old s → Takes is_honest s (steps s cs) new a b
+
+-- or the call stopped within them
+abbrev pub StopsCommand : Stop → Bool → Store → List Command → List Event → List Event → Type 0
+StopsCommand stop is_honest old cs a b = (s : State) → StandsFor old s → StopsIn stop is_honest s (steps s cs) a b
+
+-- the command of a load was taken
+abbrev pub ClosesLoad : Bool → Store → Pending → Bool → Store → List Event → List Event → Type 0
+ClosesLoad is_honest old pending is_ended new a b =
+    (load : Loading) → StandsForLoad pending load → TakesCommand is_honest old (WithRows load.words load.rows is_ended ∷ []) new a b
+
+abbrev pub BreaksLoad : Stop → Bool → Store → Pending → Bool → List Event → List Event → Type 0
+BreaksLoad stop is_honest old pending is_ended a b =
+    (load : Loading) → StandsForLoad pending load → StopsCommand stop is_honest old (WithRows load.words load.rows is_ended ∷ []) a b
+
+-- a line ended its commands, and the session is behind it
+pub record TakesSessionLine (is_honest : Bool) (old new : Session) (a b : List Event) (line : List ℕ) (load : Option Loading) : Type 0 where
+  pub takes : TakesCommand is_honest old.store (ended_by load line) new.store a b
+  pub pending : StandsForPending new.load (load_after load line)
+
+abbrev pub MovesLine : Bool → Session → Session → List Event → List Event → List ℕ → Type 0
+MovesLine is_honest old new a b line = (load : Option Loading) → StandsForPending old.load load → TakesSessionLine is_honest old new a b line load
+
+abbrev pub BreaksLine : Stop → Bool → Session → List Event → List Event → List ℕ → Type 0
+BreaksLine stop is_honest old a b line = (load : Option Loading) → StandsForPending old.load load → StopsCommand stop is_honest old.store (ended_by load line) a b

@@ -1,0 +1,19 @@
+//! The program behind its words: sessions on the one channel `raw`.
+#![tactic(auto)]
+
+mod flow;
+mod lines;
+mod load;
+mod program;
+mod reader;
+mod reply;
+mod rows;
+mod session;
+mod status;
+mod stop;
+mod store;
+mod words;
+
+pub use program::nova;
+pub use reply::row_text;
+pub use status::Status;

@@ -1,2 +1,4 @@
 pub mod Causes
+pub mod Disk
 pub mod History
+pub mod Laws

@@ -5,7 +5,8 @@ use Rattle.std.proofs.lemmas.Grind.{common_steps}
 use Rattle.std.proofs.lemmas.Bool.{cases_lt}
 use Rattle.std.proofs.lemmas.List.{reverse-append, take_all, take_at, drop_at, length-take-le}
 use Rattle.std.proofs.Math.Seq.{take-append-add}
-use Rattle.std.specs.BTreeMap.{get, is_at}
+use Rattle.std.specs.BTreeMap.{get, is_at, IsEmpty}
+use Rattle.std.specs.Map.{lookup}
 use Rattle.std.specs.Ordering.{nat_cmp}
 use Rattle.std.specs.declared.alloc.Global.{Global}
 use Rattle.nova_outside.specs.Disk.{Files, overlaid}
@@ -119,3 +120,6 @@ written file at bytes over was ds es old new is there le kept files =
       said = λ said. refl;
       event = λ said earlier e. ap (λ (l : List ℕ). wrote at l file earlier) wrote_is ∙ ap (λ (o : Option (List ℕ)). OnFile (IsWritten at (length bytes)) file (option_map (overlaid at bytes) o)) (e ∙ there);
     })
+
+pub empty_view : (files : BTreeMap ℕ (Vec ℕ Global)) → IsEmpty files → (n : ℕ) → view files n ≡ None
+empty_view files empty n = ap (λ (es : List (ℕ × Vec ℕ Global)). option_map vec_items (lookup (is_at (nat_cmp n)) es)) empty

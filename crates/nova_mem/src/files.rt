@@ -1,8 +1,8 @@
 // Files in memory by number, and calls on them, each of which keeps its deed.
-ghost use Rattle.std.specs.Prelude.{◌≡◌, ◌+◌, ◌-◌, ◌≤◌, ◌<◌, ◌++◌, ◌∷◌, [], ℕ, length, take, drop, reverse, vec_len, vec_capacity, IfOk, OnOk, OnErr, IfSome, Some, None, option_map, vec_items};
+ghost use Rattle.std.specs.Prelude.{◌≡◌, ◌+◌, ◌-◌, ◌≤◌, ◌<◌, ◌++◌, ◌∷◌, [], ℕ, length, take, drop, reverse, slice_set, vec_len, vec_capacity, IfOk, OnOk, OnErr, IfSome, Some, None, option_map, vec_items};
 ghost use Rattle.nova_outside.specs.Disk.{overlaid, Reaches, piece, IsNext};
 ghost use Rattle.nova_outside.specs.History.Change.{Created, Written, Synced, Removed};
-ghost use Rattle.nova_mem.specs.Deeds.{view};
+ghost use Rattle.nova_mem.specs.Deeds.{bytes_in, view, with_file};
 ghost use Rattle.nova_mem.specs.Does.{Does};
 
 use crate::parts::Deed;
@@ -176,4 +176,23 @@ pub fn remove_file(
     let before = files.remove(&file);
     keep(deeds, Deed::Removed { file, before });
     Ok(())
+}
+
+// Puts a byte of a file in the place of another.
+pub fn edit_file(files: &mut BTreeMap<u64, Vec<u8>>, file: u64, at: usize, byte: u8)
+    requires { at < length (bytes_in (view files.old file)) }
+    ensures { (n : ℕ) → view files.new n ≡ with_file file (option_map (λ bytes. slice_set bytes at byte) (view files.old file)) (view files.old) n }
+{
+    if let Some(bytes) = files.get_mut(&file) {
+        bytes[at] = byte;
+    }
+}
+
+// Cuts a file to a length.
+pub fn cut_file(files: &mut BTreeMap<u64, Vec<u8>>, file: u64, count: usize)
+    ensures { (n : ℕ) → view files.new n ≡ with_file file (option_map (take count) (view files.old file)) (view files.old) n }
+{
+    if let Some(bytes) = files.get_mut(&file) {
+        bytes.truncate(count);
+    }
 }

@@ -1,5 +1,5 @@
 -- What each call on the files does, from what the map has at each number.
-use Rattle.std.proofs.Common.{◌≡◌, ◌≢◌, ℕ, ◌+◌, ◌-◌, ◌<◌, ◌≤◌, min, List, [], ◌∷◌, ◌++◌, length, take, drop, reverse, nat_eq, cond, if◌then◌else◌, Option, Some, None, option_map, Vec, vec_items, BTreeMap, Bool, true, false, inl, inr, refl, sym, ◌∙◌, ap, subst, arith, append_assoc, length-append, length-take, length-drop, take-append-drop}
+use Rattle.std.proofs.Common.{◌≡◌, ℕ, ◌+◌, ◌-◌, ◌≤◌, min, List, [], ◌∷◌, ◌++◌, length, take, drop, reverse, nat_eq, cond, if◌then◌else◌, Option, Some, None, option_map, Vec, vec_items, BTreeMap, Bool, true, false, inl, inr, refl, sym, ◌∙◌, ap, subst, arith, append_assoc, length-append, length-take, length-drop, take-append-drop}
 use Rattle.std.proofs.lemmas.Bool.Decides.{nat_tests}
 use Rattle.std.proofs.lemmas.Grind.{common_steps}
 use Rattle.std.proofs.lemmas.Bool.{cases_lt}
@@ -10,10 +10,9 @@ use Rattle.std.specs.Map.{lookup}
 use Rattle.std.specs.Ordering.{nat_cmp}
 use Rattle.std.specs.declared.alloc.Global.{Global}
 use Rattle.nova_outside.specs.Disk.{Files, overlaid}
-use Rattle.nova_outside.specs.History.{Event, Change, current}
 use Rattle.nova_outside.specs.History.Event.{OnFile}
 use Rattle.nova_outside.specs.History.Change.{Created as IsCreated, Written as IsWritten, Synced as IsSynced, Removed as IsRemoved}
-use Rattle.nova_mem.specs.Deeds.{view, with_file, files_before, bytes_in, event_of, wrote}
+use Rattle.nova_mem.specs.Deeds.{view, with_file, bytes_in, wrote}
 use Rattle.nova_mem.specs.Does.{Does}
 use Rattle.nova_mem.specs.declared.parts.Deed.{Deed}
 use Rattle.nova_mem.specs.declared.parts.Deed.TheVariants.{Created, Written, Synced, Removed}
@@ -97,10 +96,10 @@ put_back at bytes old le =
     ap (λ (l : List ℕ). take (length old) (l ++ drop (at + length over) new)) start ∙ elim (cases_lt (length old) (at + n)) [
       | inl past ↦ ap (λ (l : List ℕ). take (length old) (l ++ drop (at + length over) new)) (take_all (at + n) old (omega (arith, past))) ∙ take_at old (drop (at + length over) new) (length old) refl
       | inr inside ↦
-        let k : at + length over ≡ at + n = omega (arith, inside, length-over at n old) in
-        let both : length (take at old ++ bytes) ≡ at + n = omega (arith, long, length-append (take at old) bytes) in
-        ap (λ (m : ℕ). take (length old) (take (at + n) old ++ drop m new)) k ∙ ap (λ (l : List ℕ). take (length old) (take (at + n) old ++ l)) (drop_at (take at old ++ bytes) rest (at + n) both)
-        ∙ ap (λ (l : List ℕ). take (length old) l) (take-append-drop (at + n) old) ∙ take_all (length old) old (omega arith)
+          let k : at + length over ≡ at + n = omega (arith, inside, length-over at n old) in
+          let both : length (take at old ++ bytes) ≡ at + n = omega (arith, long, length-append (take at old) bytes) in
+          ap (λ (m : ℕ). take (length old) (take (at + n) old ++ drop m new)) k ∙ ap (λ (l : List ℕ). take (length old) (take (at + n) old ++ l)) (drop_at (take at old ++ bytes) rest (at + n) both)
+          ∙ ap (λ (l : List ℕ). take (length old) l) (take-append-drop (at + n) old) ∙ take_all (length old) old (omega arith)
     ]
 
 pub written : (file at : ℕ) (bytes : List ℕ) (over : Vec ℕ Global) (was : List ℕ) (ds es : List Deed) (old new : Files) → es ≡ ds ++ Written file at (length bytes) over (length was) ∷ []

@@ -1,14 +1,14 @@
 -- The history of a disk in memory: what it tells of files and replies, that it is valid, and how it grows.
-use Rattle.std.proofs.Common.{◌≡◌, ◌≢◌, ◌⊎◌, inl, inr, ⊎_elim, ℕ, zero, suc, ◌+◌, ◌-◌, ◌<◌, ◌≤◌, max, min, List, [], ◌∷◌, ◌++◌, length, get_or, take, drop, reverse, nat_eq, if◌then◌else◌, Option, Some, None, IsSome, Result, Ok, Err, OnOk, OnErr, option_map, Bool, true, false, refl, sym, ◌∙◌, ap, subst, arith, length-append, length-take, length-drop, take-append-drop}
+use Rattle.std.proofs.Common.{◌≡◌, ◌≢◌, inl, inr, ℕ, zero, suc, ◌-◌, ◌<◌, ◌≤◌, List, [], ◌∷◌, ◌++◌, length, take, drop, reverse, nat_eq, if◌then◌else◌, Option, Some, None, IsSome, Result, Ok, Err, OnOk, OnErr, option_map, Bool, false, refl, sym, ◌∙◌, ap, subst, arith, length-append, take-append-drop}
 use Rattle.std.proofs.lemmas.Bool.{cases_eq, cases_lt}
 use Rattle.std.proofs.lemmas.Bool.Decides.{nat_tests}
-use Rattle.std.proofs.lemmas.List.{reverse-append, get_or_append_left, get_or-append_right, get_or-take, get_or-drop, take_at, drop_at}
-use Rattle.nova_outside.specs.Disk.{Files, overlaid, Torn, Tears, Only}
-use Rattle.nova_outside.specs.History.{Event, Change, IfTrue, Valid, Outcome, current, replies}
+use Rattle.std.proofs.lemmas.List.{reverse-append, take_at, drop_at}
+use Rattle.nova_outside.specs.Disk.{Files, Only}
+use Rattle.nova_outside.specs.History.{Event, Change, IfTrue, Outcome, current, replies}
 use Rattle.nova_outside.specs.History.Event.{OnFile, Replied as AddsReply}
-use Rattle.nova_outside.specs.History.Change.{Created as IsCreated, Written as IsWritten, Synced as IsSynced, Removed as IsRemoved}
+use Rattle.nova_outside.specs.History.Change.{Created as IsCreated, Synced as IsSynced}
 use Rattle.nova_outside.proofs.Outcomes.{there}
-use Rattle.nova_mem.specs.Deeds.{with_file, files_before, replies_before, event_of, settled, settled_file, told}
+use Rattle.nova_mem.specs.Deeds.{with_file, files_before, event_of, settled, settled_file, told}
 use Rattle.nova_mem.specs.Does.{Does}
 use Rattle.nova_mem.specs.declared.parts.Deed.{Deed}
 use Rattle.nova_mem.specs.declared.parts.Deed.TheVariants.{Created, Written, Synced, Removed, Replied}
@@ -135,6 +135,7 @@ numbered_more file n old_greatest greatest now old new up is more here_up some =
   where
     there_is : file ≡ n → with_file file now old n ≡ now
     there_is e = grind (arith, nat_tests)
+
     other_is : file ≢ n → with_file file now old n ≡ old n
     other_is ne = grind (arith, nat_tests)
 

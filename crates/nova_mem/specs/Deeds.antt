@@ -1,10 +1,10 @@
 -- What a disk in memory keeps of its calls, and the history that it tells. All is told from the newest deed back.
-use Rattle.std.specs.Prelude.{◌≡◌, ◌≢◌, ℕ, zero, suc, ◌-◌, List, [], ◌∷◌, length, take, drop, reverse, nat_eq, if◌then◌else◌, Option, Some, None, option_map, Vec, vec_items}
+use Rattle.std.specs.Prelude.{ℕ, zero, suc, ◌-◌, List, [], ◌∷◌, length, take, drop, nat_eq, if◌then◌else◌, Option, Some, None, option_map, Vec, vec_items}
 use Rattle.std.specs.BTreeMap.{BTreeMap, get}
 use Rattle.std.specs.declared.alloc.Global.{Global}
 use Rattle.std.specs.Ordering.{nat_cmp}
 use Rattle.nova_outside.specs.Disk.{Files, overlaid}
-use Rattle.nova_outside.specs.History.{Event, Change, current}
+use Rattle.nova_outside.specs.History.{Event, current}
 use Rattle.nova_outside.specs.History.Event.{OnFile, Replied as AddsReply}
 use Rattle.nova_outside.specs.History.Change.{Created as IsCreated, Written as IsWritten, Synced as IsSynced, Removed as IsRemoved}
 use Rattle.nova_mem.specs.declared.parts.Deed.{Deed}

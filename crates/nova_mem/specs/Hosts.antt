@@ -1,5 +1,5 @@
 -- What the calls of a host in memory keep to besides the trait.
-use Rattle.std.specs.Prelude.{◌≡◌, ◌⊎◌, ℕ, ◌+◌, ◌-◌, ◌^◌, min, Result, IsErr, OnOk, OnErr, IsTrue}
+use Rattle.std.specs.Prelude.{◌≡◌, ◌⊎◌, ◌+◌, ◌-◌, ◌^◌, min, Result, IsErr, OnOk, OnErr}
 use Rattle.nova_outside.specs.Causes.{Rose}
 use Rattle.nova_mem.specs.Disks.{history_of}
 use Rattle.nova_mem.specs.Turns.{IsAmong}

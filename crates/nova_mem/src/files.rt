@@ -39,12 +39,7 @@ fn copy_piece(bytes: &[u8], at: usize, into: &mut [u8]) -> usize
 }
 
 /// Moves bytes of a file from an offset on to the front of the slice, and answers how many.
-pub fn read_piece(
-    files: &BTreeMap<u64, Vec<u8>>,
-    file: u64,
-    at: u64,
-    into: &mut [u8],
-) -> usize
+pub fn read_piece(files: &BTreeMap<u64, Vec<u8>>, file: u64, at: u64, into: &mut [u8]) -> usize
     ensures within { result ≤ length into.new }
     ensures bytes { take result into.new ≡ piece at (length into.old) (view files.now file) }
 {

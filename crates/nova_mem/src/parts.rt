@@ -10,7 +10,10 @@ use std::collections::BTreeMap;
 #[derive(Drop)]
 pub enum Deed {
     /// A file was made, in the place of this one.
-    Created { file: u64, before: Option<Vec<u8>> },
+    Created {
+        file: u64,
+        before: Option<Vec<u8>>,
+    },
     /// So many bytes were written at an offset, over these ones, into a file of this length.
     Written {
         file: u64,
@@ -20,11 +23,18 @@ pub enum Deed {
         length: u64,
     },
     /// A file was synced.
-    Synced { file: u64 },
+    Synced {
+        file: u64,
+    },
     /// A file was removed, which was this one.
-    Removed { file: u64, before: Option<Vec<u8>> },
+    Removed {
+        file: u64,
+        before: Option<Vec<u8>>,
+    },
     /// The last so many bytes of the replies were added.
-    Replied { count: u64 },
+    Replied {
+        count: u64,
+    },
 }
 
 /// Files, replies, and the deeds since all files up to `base` were settled, the newest last.

@@ -10,7 +10,7 @@ use crate::{Failed, Host};
 /// calls; `Failed` is that of the first that failed.
 pub fn put_file<H: Host>(host: &mut H, file: u64, bytes: &[u8]) -> Result<(), Failed>
     ensures current { IsTrue H.is_honest → OnOk result (current (H.history host.new) file ≡ Some bytes.now) }
-    ensures settled { IsTrue H.is_honest → OnOk result (Only (Some bytes.now) (Outcome (H.history host.new) file)) }
+    ensures settled { IsTrue H.is_honest → OnOk result (Only (current (H.history host.new) file) (Outcome (H.history host.new) file)) }
     ensures others { IsTrue H.is_honest → SameBut file (current (H.history host.old)) (current (H.history host.new)) }
     ensures replies { IsTrue H.is_honest → replies (H.history host.new) ≡ replies (H.history host.old) }
     ensures crash_others { IsTrue H.is_honest → LeavesSameBut file (Outcome (H.history host.old)) (Outcome (H.history host.new)) }
@@ -20,8 +20,7 @@ pub fn put_file<H: Host>(host: &mut H, file: u64, bytes: &[u8]) -> Result<(), Fa
     ensures bytes_read { H.bytes_read host.new ≡ H.bytes_read host.old }
 {
     host.create(file)?;
-    host.write(file, 0, bytes)?;
-    host.sync(file)
+    write_through(host, file, 0, bytes)
 }
 
 /// Writes to a present file and syncs it. It makes two calls; `Failed` is that of the first that

@@ -1,4 +1,4 @@
-use Rattle.std.proofs.Common.{◌∷◌, [], ◌++◌, List, ℕ, Some, ap, sym, ◌∙◌, option_map, vec_items}
+use Rattle.std.proofs.Common.{◌∷◌, [], ◌++◌, List, ℕ, Some, ap, ◌∙◌, option_map, vec_items}
 use Rattle.nova_mem.specs.Deeds.{view, with_file}
 use Rattle.nova_mem.specs.declared.parts.Deed.{Deed}
 use Rattle.nova_mem.specs.declared.parts.Deed.TheVariants.{Created}

@@ -1,4 +1,4 @@
-use Rattle.std.proofs.Common.{◌∷◌, [], ◌++◌, List, None, ap, sym, ◌∙◌, option_map, vec_items}
+use Rattle.std.proofs.Common.{◌∷◌, [], ◌++◌, List, None, ap, ◌∙◌, option_map, vec_items}
 use Rattle.nova_mem.specs.Deeds.{view}
 use Rattle.nova_mem.specs.declared.parts.Deed.{Deed}
 use Rattle.nova_mem.specs.declared.parts.Deed.TheVariants.{Removed}

@@ -1,12 +1,10 @@
-use Rattle.std.proofs.Common.{rules, ◌≡◌, ◌≤◌, ◌∷◌, [], ◌++◌, List, ℕ, Option, Some, Vec, IsSome, refl, ap, sym, subst, ◌∙◌, option_map, vec_items, length, take, drop}
+use Rattle.std.proofs.Common.{rules, ◌≡◌, ◌≤◌, List, ℕ, Option, Some, Vec, IsSome, refl, ap, sym, subst, ◌∙◌, option_map, vec_items, length, take, drop}
 use Rattle.std.specs.Option.{option_copied_mut}
 use Rattle.std.specs.BTreeMap.{get}
 use Rattle.std.specs.Ordering.{nat_cmp}
 use Rattle.std.specs.declared.alloc.Global.{Global}
-use Rattle.nova_outside.specs.Disk.{Reaches, overlaid}
+use Rattle.nova_outside.specs.Disk.{Reaches}
 use Rattle.nova_mem.specs.Deeds.{view, with_file}
-use Rattle.nova_mem.specs.declared.parts.Deed.{Deed}
-use Rattle.nova_mem.specs.declared.parts.Deed.TheVariants.{Written}
 use Rattle.nova_mem.proofs.Changes.{written, viewed}
 use Rattle.nova_mem.proofs.files.write_file.Goals as goal
 

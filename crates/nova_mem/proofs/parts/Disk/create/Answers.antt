@@ -1,4 +1,4 @@
-use Rattle.std.proofs.Common.{[], ℕ, Some, arith}
+use Rattle.std.proofs.Common.{[], Some, arith}
 use Rattle.nova_outside.specs.History.Change.{Created}
 use Rattle.nova_mem.specs.Deeds.{view}
 use Rattle.nova_mem.proofs.Told.{kept_more, numbered_more}

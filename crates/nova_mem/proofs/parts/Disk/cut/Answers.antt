@@ -1,4 +1,4 @@
-use Rattle.std.proofs.Common.{List, ℕ, reverse, set, take, sym, ◌∙◌}
+use Rattle.std.proofs.Common.{reverse, take, sym, ◌∙◌}
 use Rattle.nova_mem.specs.Deeds.{view}
 use Rattle.nova_mem.proofs.Told.{kept_settled, only_settled, replies_told, numbered_changed}
 use Rattle.nova_mem.proofs.parts.Disk.cut.Goals as goal

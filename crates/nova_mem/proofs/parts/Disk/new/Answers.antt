@@ -1,4 +1,4 @@
-use Rattle.std.proofs.Common.{ℕ, reverse, ◌∙◌}
+use Rattle.std.proofs.Common.{reverse, ◌∙◌}
 use Rattle.nova_mem.specs.Deeds.{view}
 use Rattle.nova_mem.proofs.Changes.{empty_view}
 use Rattle.nova_mem.proofs.Told.{kept_settled, only_settled, replies_told, none_numbered}

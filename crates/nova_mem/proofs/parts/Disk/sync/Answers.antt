@@ -1,10 +1,6 @@
-use Rattle.std.proofs.Common.{◌≡◌, List, ℕ, Option, Result, Ok, Err, None, Some, OnOk, OnErr, option_map, length, arith, ap, ◌∙◌}
-use Rattle.nova_outside.specs.Disk.{Files, overlaid}
-use Rattle.nova_outside.specs.History.{Event, current}
-use Rattle.nova_outside.specs.History.Event.{OnFile}
 use Rattle.nova_outside.specs.History.Change.{Synced}
 use Rattle.nova_mem.specs.Deeds.{view}
-use Rattle.nova_mem.proofs.Told.{told_more, kept_after, numbered_after, some_of_map}
+use Rattle.nova_mem.proofs.Told.{kept_after, numbered_after}
 use Rattle.nova_mem.proofs.parts.Disk.sync.Goals as goal
 
 pub invariant_of-self-clause-kept : goal.invariant_of-self-clause-kept

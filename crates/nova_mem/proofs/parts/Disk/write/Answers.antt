@@ -1,7 +1,6 @@
-use Rattle.std.proofs.Common.{◌≡◌, ◌∷◌, reverse, sym, List, ℕ, Option, Result, Ok, Err, None, Some, OnOk, OnErr, option_map, length, arith, ap, ◌∙◌}
+use Rattle.std.proofs.Common.{◌∷◌, reverse, sym, List, ℕ, Option, option_map, length, ap, ◌∙◌}
 use Rattle.std.proofs.lemmas.Result.{on_ok_weaker}
-use Rattle.nova_outside.specs.Disk.{Files, overlaid}
-use Rattle.nova_outside.specs.History.{Event, current}
+use Rattle.nova_outside.specs.Disk.{overlaid}
 use Rattle.nova_outside.specs.History.Event.{OnFile}
 use Rattle.nova_outside.specs.History.Change.{Written}
 use Rattle.nova_mem.specs.Deeds.{view, told}

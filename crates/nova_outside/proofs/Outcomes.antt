@@ -108,3 +108,13 @@ written_fits history old new at bytes file valid is = record { now = _; fits = (
 
 pub created_fits : (old new : List Event) (file : ℕ) → new ≡ OnFile Created file (Some []) ∷ old → Changed Created file old new
 created_fits old new file is = record { now = Some []; fits = inr refl; is = is }
+
+-- what is read after a change of a file: of that file what it left, of every other what was read before
+pub read_here : (change : Change) (file : ℕ) (now : Option (List ℕ)) (h : List Event) → current (OnFile change file now ∷ h) file ≡ now
+read_here change file now h = ap (λ (b : Bool). if b then now else current h file) (same_number file)
+
+pub read_other : (change : Change) (file other : ℕ) (now : Option (List ℕ)) (h : List Event) → other ≢ file → current (OnFile change file now ∷ h) other ≡ current h other
+read_other change file other now h ne = ap (λ (b : Bool). if b then now else current h other) (apart file other ne)
+  where
+    apart : (a b : ℕ) → b ≢ a → nat_eq a b ≡ false
+    apart a b ne = grind (arith, nat_tests)

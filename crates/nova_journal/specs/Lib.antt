@@ -1,0 +1,4 @@
+pub mod Fault
+pub mod Log
+pub mod Marks
+pub mod Unread

@@ -1,5 +1,5 @@
 -- Why a call on a journal may fail.
-use Rattle.std.specs.Prelude.{◌≡◌, ℕ, ◌+◌, ◌*◌, ◌<◌, ◌≤◌, ◌^◌, List, Option, Some, None}
+use Rattle.std.specs.Prelude.{◌≡◌, ℕ, ◌*◌, ◌<◌, ◌≤◌, ◌^◌, List, Option, Some, None}
 use Rattle.nova_outside.specs.Causes.{Rose}
 use Rattle.nova_outside.specs.Disk.{Files}
 use Rattle.nova_journal.specs.Log.{DamagedAt}

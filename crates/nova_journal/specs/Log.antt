@@ -54,26 +54,33 @@ IsFrame framed = (payload : List ℕ) × (framed ≡ frame payload)
 abbrev pub payloads_of : List Payload → List (List ℕ)
 payloads_of ps = map (λ p. p.bytes.items) ps
 
+-- each payload stands behind its gate and its length, the first gate at this place
+abbrev pub IsPlaced : ℕ → List Payload → Type 0
+IsPlaced at [] = Unit {0}
+IsPlaced at (payload ∷ payloads) = (payload.at ≡ at + 9) × IsPlaced (at + 9 + length payload.bytes.items) payloads
+
 -- what follows a gate is no record with a gate after it
 abbrev pub IsCutShort : List ℕ → Type 0
 IsCutShort rest = (length rest < 8) ⊎ (length rest ≤ 8 + from_be_bytes w64 (take 8 rest))
 
--- no gate, or an open one whose record is cut short
+-- an open gate whose record is cut short
 abbrev pub IsBroken : List ℕ → Type 0
-IsBroken [] = Unit {0}
+IsBroken [] = ⊥
 IsBroken (gate ∷ rest) = (gate ≡ 1) × IsCutShort rest
 
-abbrev pub IsClosed : List ℕ → Type 0
-IsClosed [] = ⊥
-IsClosed (gate ∷ rest) = gate ≢ 1
+-- no open gate
+abbrev pub IsShut : List ℕ → Type 0
+IsShut [] = Unit {0}
+IsShut (gate ∷ rest) = gate ≢ 1
 
--- The file is no journal: after these records comes a gate whose record is cut short, or the first gate is closed.
+-- The file is no journal: after these records comes an open gate whose record is cut short, or none counts.
 pub record DamagedAt (at : ℕ) (file : List ℕ) : Type 0 where
   pub payloads : List (List ℕ)
+  pub short : All IsShort payloads
   pub tail : List ℕ
   pub is : file ≡ records payloads ++ tail
   pub place : length (records payloads) ≡ at
-  pub broken : IsBroken tail ⊎ ((payloads ≡ []) × IsClosed tail)
+  pub broken : IsBroken tail ⊎ ((payloads ≡ []) × IsShut tail)
 
 -- the length that stands there, or none where the record is cut short
 abbrev pub RecordOf : List ℕ → Option ℕ → Type 0

@@ -19,11 +19,7 @@ fn zeroes(alloc: Global, count: usize) -> Result<Vec<u8>, LogFault>
 }
 
 /// The bytes of a file, or None where it is absent. Each byte is read once.
-pub fn whole<H: Host>(
-    alloc: Global,
-    host: &mut H,
-    file: u64,
-) -> Result<Option<Vec<u8>>, LogFault>
+pub fn whole<H: Host>(alloc: Global, host: &mut H, file: u64) -> Result<Option<Vec<u8>>, LogFault>
     ensures answer { IsTrue H.is_honest → IfOk result (λ found. option_map vec_items found ≡ current (H.history host.old) file) }
     ensures same { IsTrue H.is_honest → H.history host.new ≡ H.history host.old }
     ensures cause { IfErr result (ReadCause (H.disk_faults host.old) (H.disk_faults host.new)) }

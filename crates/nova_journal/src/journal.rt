@@ -3,7 +3,7 @@ ghost use Rattle.std.specs.Prelude.{◌≡◌, ◌+◌, ◌*◌, ◌^◌, ◌<�
 ghost use Rattle.nova_outside.specs.Disk.{Only, SameBut, LeavesSameBut, OneChanges};
 ghost use Rattle.nova_outside.specs.History.{Meanwhile, Outcome, current, replies};
 ghost use Rattle.nova_journal.specs.Fault.{AppendCause, MarkCause, ReopenCause, ReopenTold};
-ghost use Rattle.nova_journal.specs.Log.{BeforeOrAfter, IsFrame, IsReadTo, LogTo, file_length, frame, payloads_of};
+ghost use Rattle.nova_journal.specs.Log.{BeforeOrAfter, IsFrame, IsPlaced, IsReadTo, LogTo, file_length, frame, payloads_of};
 ghost use Rattle.nova_journal.specs.Marks.{Holds, IsIn, IsMark, IsUnmarked};
 
 use crate::contents::whole;
@@ -101,13 +101,12 @@ impl Journal {
 
     /// Opens the journal of the greatest mark, once the mark and the journal are synced, and gives its
     /// payloads.
-    pub fn reopen<H: Host>(
-        alloc: Global,
-        host: &mut H,
-    ) -> Result<(Journal, Vec<Payload>), LogFault>
+    pub fn reopen<H: Host>(alloc: Global, host: &mut H) -> Result<(Journal, Vec<Payload>), LogFault>
         ensures found { IsTrue H.is_honest → IfOk result (λ found. IsMark (current (H.history host.old)) (Some found.0.generation) × IsReadTo found.0.length (payloads_of found.1.items) (current (H.history host.old) (4 * found.0.generation))) }
         ensures in_host { IsTrue H.is_honest → IfOk result (λ found. Holds found.0.generation found.0.length (payloads_of found.1.items) (current (H.history host.new))) }
+        ensures places { IfOk result (λ found. IsPlaced 0 found.1.items) }
         ensures settled { IsTrue H.is_honest → IfOk result (λ found. Only (current (H.history host.old) (4 * found.0.generation)) (Outcome (H.history host.new) (4 * found.0.generation))) }
+        ensures mark_settled { IsTrue H.is_honest → IfOk result (λ found. Only (current (H.history host.old) (4 * found.0.generation + 1)) (Outcome (H.history host.new) (4 * found.0.generation + 1))) }
         ensures files { IsTrue H.is_honest → (n : ℕ) → current (H.history host.new) n ≡ current (H.history host.old) n }
         ensures replies { IsTrue H.is_honest → replies (H.history host.new) ≡ replies (H.history host.old) }
         ensures told { IsTrue H.is_honest → IfErr result (ReopenTold (current (H.history host.old))) }

@@ -4,15 +4,17 @@
 
 mod contents;
 mod fault;
-mod frame;
+mod framing;
 mod journal;
 mod marks;
 mod payload;
 mod reading;
+#[cfg(test)]
+mod tests;
 mod unread;
 
 pub use fault::LogFault;
-pub use frame::frame as framed;
+pub use framing::frame;
 pub use journal::Journal;
 pub use marks::marked;
 pub use payload::Payload;

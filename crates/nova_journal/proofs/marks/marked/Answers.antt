@@ -1,5 +1,5 @@
-use Rattle.std.proofs.Common.{IsTrue, List, Option, Some, None, ℕ, ◌∙◌, ◌<◌, ◌^◌, arith, subst, sym, rules}
-use Rattle.nova_outside.specs.Disk.{Files, IsNext}
+use Rattle.std.proofs.Common.{IsTrue, List, Option, Some, ℕ, ◌∙◌, ◌<◌, ◌^◌, arith, subst, rules}
+use Rattle.nova_outside.specs.Disk.{IsNext}
 use Rattle.nova_outside.specs.History.{Event, current}
 use Rattle.nova_journal.proofs.Generations.{mark_hit, mark_miss}
 use Rattle.nova_journal.proofs.marks.marked.Goals as goal

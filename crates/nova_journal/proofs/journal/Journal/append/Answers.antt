@@ -1,9 +1,9 @@
-use Rattle.std.proofs.Common.{◌≡◌, ◌+◌, ◌*◌, ◌<◌, ◌-◌, ◌^◌, inl, inr, ℕ, List, Option, length, refl, sym, subst, arith, ◌∙◌}
+use Rattle.std.proofs.Common.{◌+◌, ◌*◌, ◌<◌, ◌-◌, ◌^◌, inl, length, sym, subst, arith, ◌∙◌}
 use Rattle.nova_outside.specs.Disk.{TornFrom, OneChanges}
-use Rattle.nova_outside.specs.History.{Event, Outcome, current, replies, Meanwhile}
+use Rattle.nova_outside.specs.History.{Outcome, current, replies, Meanwhile}
 use Rattle.nova_outside.proofs.Moments.{started, and_then, weaker}
 use Rattle.nova_outside.proofs.Outcomes.{leaves_then}
-use Rattle.nova_journal.specs.Log.{IsShort, BeforeOrAfter}
+use Rattle.nova_journal.specs.Log.{BeforeOrAfter}
 use Rattle.nova_journal.proofs.Outcomes.{short_payload, body_outcome, gate_outcome, gate_done}
 use Rattle.nova_journal.proofs.Generations.{mark_apart}
 use Rattle.nova_journal.proofs.journal.Journal.append.Goals as goal
@@ -57,7 +57,7 @@ returns-clause-added g c honest payloads payload held is =
     let fits : length c.args.framed.now < 2 ^ 64 = omega arith in
     record {
       log = gate_done c.args.self.length payloads payload c.args.framed.now (current (H.history c.args.host.now) file) held.log is (current (H.history c.write_through.new.host) file) (current (H.history c.write_through-2.new.host) file)
-      (c.in_ok-write_through.ensures.written honest) (c.in_ok-write_through-2.ensures.written honest) (short_payload payload c.args.framed.now is fits);
+          (c.in_ok-write_through.ensures.written honest) (c.in_ok-write_through-2.ensures.written honest) (short_payload payload c.args.framed.now is fits);
       newest = λ y lt. c.write_through-2.ensures.others honest (4 * y + 1) (mark_apart x y) ∙ c.write_through.ensures.others honest (4 * y + 1) (mark_apart x y) ∙ held.newest y lt;
     }
 

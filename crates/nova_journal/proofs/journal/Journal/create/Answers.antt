@@ -1,4 +1,4 @@
-use Rattle.std.proofs.Common.{◌≡◌, ◌∙◌, ◌+◌, ◌*◌, ◌<◌, ◌≤◌, ◌^◌, ◌∷◌, [], List, ℕ, Option, Some, length, option_map, ap, arith}
+use Rattle.std.proofs.Common.{◌≡◌, ◌∙◌, ◌+◌, ◌*◌, ◌<◌, ◌^◌, ◌∷◌, [], List, Some, length, option_map, ap, arith}
 use Rattle.nova_outside.specs.Disk.{overlaid}
 use Rattle.nova_outside.specs.History.{Event, current}
 use Rattle.nova_outside.specs.History.Change.{Created, Written}
@@ -25,9 +25,9 @@ returns-clause-made g c honest payload is =
     record {
       log = created_done payload framed (current (H.history c.write_through.new.host) file) is (short_payload payload framed is fits) body;
       newest = λ y lt.
-      let mark = 4 * y + 1 in
-      c.write_through.ensures.others honest mark (mark_apart x y)
-      ∙ (ap (λ (h : List Event). current h mark) wrote ∙ read_other (Written 0 1) file mark (option_map (overlaid 0 (1 ∷ [])) (current h1 file)) h1 (mark_apart x y))
-      ∙ (ap (λ (h : List Event). current h mark) made ∙ read_other Created file mark (Some []) h0 (mark_apart x y))
-      ∙ c.requires.unmarked honest y (omega (arith, lt));
+          let mark = 4 * y + 1 in
+          c.write_through.ensures.others honest mark (mark_apart x y)
+          ∙ (ap (λ (h : List Event). current h mark) wrote ∙ read_other (Written 0 1) file mark (option_map (overlaid 0 (1 ∷ [])) (current h1 file)) h1 (mark_apart x y))
+          ∙ (ap (λ (h : List Event). current h mark) made ∙ read_other Created file mark (Some []) h0 (mark_apart x y))
+          ∙ c.requires.unmarked honest y (omega (arith, lt));
     }

@@ -1,1 +1,4 @@
+pub mod Moments
+pub mod Outcomes
 pub mod ReplyLemmas
+pub mod Torn

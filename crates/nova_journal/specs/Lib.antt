@@ -1,0 +1,5 @@
+pub mod Fault
+pub mod Laws
+pub mod Log
+pub mod Marks
+pub mod Unread

@@ -1,0 +1,9 @@
+//! Tests of the whole program, over a source and a host in memory.
+#![tactic(auto)]
+
+#[cfg(test)]
+mod faults;
+#[cfg(test)]
+mod run;
+#[cfg(test)]
+mod sessions;

@@ -1,5 +1,7 @@
 // A folder of files with numbers for names.
-ghost use Rattle.std.specs.Prelude.{◌≤◌, length, IfOk};
+ghost use Rattle.std.specs.Prelude.{◌≡◌, ◌<◌, ◌≤◌, ◌^◌, ◌++◌, ◌∷◌, ℕ, length, string_bytes, IfOk, IfSome, IsTrue, Some, ◌↔◌};
+ghost use Rattle.std.specs.Fmt.{decimal};
+ghost use Rattle.nova_dir.specs.Names.{IsPlain};
 
 use std::alloc::{AllocError, Global};
 use std::collections::BTreeSet;
@@ -8,17 +10,34 @@ use std::io::{ErrorKind, Read, Seek, SeekFrom, Write};
 use std::rt::Files;
 use std::{fs, io};
 
-// The number that a name stands for: decimal digits without a leading zero.
-fn number_of(name: &str) -> Option<u64> {
-    let first = name.as_bytes().first()?;
-    if !first.is_ascii_digit() || (*first == b'0' && name.len() > 1) {
+// Whether a text begins with no plus and no needless zero.
+fn is_plain(text: &[u8]) -> bool
+    ensures { IsTrue result ↔ IsPlain text.now }
+{
+    match text.first() {
+        Some(first) => *first != b'+' && (*first != b'0' || text.len() == 1),
+        None => true,
+    }
+}
+
+// The number whose decimal digits a name is.
+fn number_of(name: &str) -> Option<u64>
+    ensures some { IfSome result (λ n. decimal n ≡ name.now) }
+    ensures all { (n : ℕ) → n < 2 ^ 64 → decimal n ≡ name.now → result ≡ Some n }
+{
+    if !is_plain(name.as_bytes()) {
         return None;
     }
-    name.parse::<u64>().ok()
+    match name.parse::<u64>() {
+        Ok(number) => Some(number),
+        Err(_) => None,
+    }
 }
 
 /// The path of a file.
-pub fn path_of(alloc: Global, folder: &str, file: u64) -> Result<String, AllocError> {
+pub fn path_of(alloc: Global, folder: &str, file: u64) -> Result<String, AllocError>
+    ensures { IfOk result (λ path. string_bytes path ≡ folder.now ++ (47 ∷ decimal file)) }
+{
     format!(in alloc; "{folder}/{file}")
 }
 

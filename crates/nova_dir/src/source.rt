@@ -1,5 +1,5 @@
 //! Standard input as a source.
-ghost use Rattle.std.specs.Prelude.{None};
+ghost use Rattle.std.specs.Prelude.{◌≡◌, None};
 
 use crate::raise;
 use nova_outside::{Failed, Source};
@@ -14,7 +14,9 @@ pub struct StdSource<'a, R: Input> {
 
 impl<'a, R: Input> StdSource<'a, R> {
     /// Reads standard input.
-    pub fn new(rt: &'a R) -> StdSource<'a, R> {
+    pub fn new(rt: &'a R) -> StdSource<'a, R>
+        ensures { result.faults ≡ 0 }
+    {
         StdSource { rt, faults: 0 }
     }
 }

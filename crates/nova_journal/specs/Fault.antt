@@ -42,3 +42,9 @@ ReopenTold files _ = Unit {0}
 abbrev pub MarkCause : ℕ → ℕ → LogFault → Type 0
 MarkCause before now Disk = Rose before now
 MarkCause before now _ = ⊥
+
+-- no newest journal was found: the disk's count rose, or it is for the host to tell that there is none
+abbrev pub UnmarkedCause : ℕ → ℕ → LogFault → Type 0
+UnmarkedCause before now Disk = Rose before now
+UnmarkedCause before now NoStore = Unit {0}
+UnmarkedCause before now _ = ⊥

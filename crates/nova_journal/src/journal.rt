@@ -1,14 +1,14 @@
 //! A journal, its making and opening, and records that are added.
-ghost use Rattle.std.specs.Prelude.{◌≡◌, ◌+◌, ◌*◌, ◌^◌, ◌<◌, ◌≤◌, ℕ, List, [], ◌∷◌, ◌++◌, Some, None, length, IfOk, IfErr, IsSome, OnOk, IsTrue};
+ghost use Rattle.std.specs.Prelude.{◌≡◌, ◌+◌, ◌*◌, ◌^◌, ◌<◌, ◌≤◌, ℕ, List, [], ◌∷◌, ◌++◌, Option, Some, None, length, IfOk, IfErr, IsSome, OnOk, IsTrue};
 ghost use Rattle.nova_outside.specs.Disk.{Only, SameBut, LeavesSameBut, OneChanges};
-ghost use Rattle.nova_outside.specs.History.{Meanwhile, Outcome, current, replies};
+ghost use Rattle.nova_outside.specs.History.{LeftNow, Meanwhile, Outcome, current, replies};
 ghost use Rattle.nova_journal.specs.Fault.{AppendCause, MarkCause, ReopenCause, ReopenTold};
 ghost use Rattle.nova_journal.specs.Log.{BeforeOrAfter, IsFrame, IsPlaced, IsReadTo, LogTo, file_length, frame, payloads_of};
 ghost use Rattle.nova_journal.specs.Marks.{Holds, IsIn, IsMark, IsUnmarked};
 
 use crate::contents::whole;
 use crate::fault::LogFault;
-use crate::marks::marked;
+use crate::marks::newest_synced;
 use crate::payload::Payload;
 use crate::reading::read_log;
 use crate::unread::Unread;
@@ -58,6 +58,8 @@ impl Journal {
         ensures settled { IsTrue H.is_honest → OnOk result (Only (current (H.history host.new) (4 * generation)) (Outcome (H.history host.new) (4 * generation))) }
         ensures others { IsTrue H.is_honest → SameBut (4 * generation) (current (H.history host.old)) (current (H.history host.new)) }
         ensures replies { IsTrue H.is_honest → replies (H.history host.new) ≡ replies (H.history host.old) }
+        ensures crash_others { IsTrue H.is_honest → LeavesSameBut (4 * generation) (Outcome (H.history host.old)) (Outcome (H.history host.new)) }
+        ensures any_moment { IsTrue H.is_honest → Meanwhile (OneChanges (4 * generation) (λ _. Unit {0}) (Outcome (H.history host.old)) (replies (H.history host.old))) (H.history host.old) (H.history host.new) }
         ensures full { (2 ^ 62 < 1 + length framed.now) → host.new ≡ host.old }
         ensures cause { IfErr result (AppendCause (H.disk_faults host.old) (H.disk_faults host.new) 1 (1 + length framed.now)) }
         ensures later { H.disk_faults host.old ≤ H.disk_faults host.new }
@@ -87,6 +89,7 @@ impl Journal {
         ensures settled { IsTrue H.is_honest → OnOk result (Only (current (H.history host.new) (4 * self.generation + 1)) (Outcome (H.history host.new) (4 * self.generation + 1))) }
         ensures others { IsTrue H.is_honest → SameBut (4 * self.generation + 1) (current (H.history host.old)) (current (H.history host.new)) }
         ensures crash_others { IsTrue H.is_honest → LeavesSameBut (4 * self.generation + 1) (Outcome (H.history host.old)) (Outcome (H.history host.new)) }
+        ensures any_moment { IsTrue H.is_honest → Meanwhile (OneChanges (4 * self.generation + 1) (λ _. Unit {0}) (Outcome (H.history host.old)) (replies (H.history host.old))) (H.history host.old) (H.history host.new) }
         ensures replies { IsTrue H.is_honest → replies (H.history host.new) ≡ replies (H.history host.old) }
         ensures cause { IfErr result (MarkCause (H.disk_faults host.old) (H.disk_faults host.new)) }
         ensures later { H.disk_faults host.old ≤ H.disk_faults host.new }
@@ -107,6 +110,8 @@ impl Journal {
         ensures places { IfOk result (λ found. IsPlaced 0 found.1.items) }
         ensures settled { IsTrue H.is_honest → IfOk result (λ found. Only (current (H.history host.old) (4 * found.0.generation)) (Outcome (H.history host.new) (4 * found.0.generation))) }
         ensures mark_settled { IsTrue H.is_honest → IfOk result (λ found. Only (current (H.history host.old) (4 * found.0.generation + 1)) (Outcome (H.history host.new) (4 * found.0.generation + 1))) }
+        ensures crash { IsTrue H.is_honest → (n : ℕ) (c : Option (List ℕ)) → Outcome (H.history host.new) n c → Outcome (H.history host.old) n c }
+        ensures any_moment { IsTrue H.is_honest → Meanwhile (LeftNow (H.history host.old)) (H.history host.old) (H.history host.new) }
         ensures files { IsTrue H.is_honest → (n : ℕ) → current (H.history host.new) n ≡ current (H.history host.old) n }
         ensures replies { IsTrue H.is_honest → replies (H.history host.new) ≡ replies (H.history host.old) }
         ensures told { IsTrue H.is_honest → IfErr result (ReopenTold (current (H.history host.old))) }
@@ -116,12 +121,8 @@ impl Journal {
         ensures bytes_read { IsTrue H.is_honest → (x : ℕ) → IsMark (current (H.history host.old)) (Some x) → H.bytes_read host.new ≤ H.bytes_read host.old + file_length (current (H.history host.old) (4 * x)) }
         ensures no_read { IsTrue H.is_honest → IsMark (current (H.history host.old)) None → H.bytes_read host.new ≡ H.bytes_read host.old }
     {
-        let Some(generation) = marked(host)? else {
-            return Err(LogFault::NoStore);
-        };
+        let generation = newest_synced(host)?;
         let file = 4 * generation;
-        host.sync(file + 1)?;
-        host.sync(file)?;
         let Some(bytes) = whole(alloc, host, file)? else {
             return Err(LogFault::Damaged { file, at: 0 });
         };

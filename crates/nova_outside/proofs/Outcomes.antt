@@ -1,11 +1,12 @@
 -- Calls on one file: its outcomes, the other files, and each moment between.
 use Rattle.std.proofs.Common.{◌≡◌, ◌≢◌, ◌⊎◌, inl, inr, ℕ, List, [], ◌∷◌, length, Bool, true, false, if◌then◌else◌, Option, Some, None, Result, Ok, Err, OnOk, OnErr, nat_eq, option_map, refl, sym, ◌∙◌, ap, subst, arith}
+use Rattle.std.proofs.lemmas.Bool.{cases_eq}
 use Rattle.std.proofs.lemmas.Bool.Decides.{nat_tests}
 use Rattle.nova_outside.specs.Disk.{LeavesSameBut, OneChanges, Torn, Tears, TornFrom, overlaid}
 use Rattle.nova_outside.specs.History.{Event, Change, ChangesInPart, Changed, Outcome, OutcomeOf, IfTrue, replies, current, Valid, LeftNow, Meanwhile}
 use Rattle.nova_outside.specs.History.Event.{OnFile, Replied}
 use Rattle.nova_outside.specs.History.Change.{Created, Written, Synced, SyncedInPart, Removed}
-use Rattle.nova_outside.proofs.Moments.{started, goes_on}
+use Rattle.nova_outside.proofs.Moments.{started, goes_on, and_then}
 
 pub either : {T E P Q : Type 0} (r : Result T E) → OnOk r P → OnErr r Q → P ⊎ Q
 either (Ok x) p q = inl p
@@ -118,3 +119,60 @@ read_other change file other now h ne = ap (λ (b : Bool). if b then now else cu
   where
     apart : (a b : ℕ) → b ≢ a → nat_eq a b ≡ false
     apart a b ne = grind (arith, nat_tests)
+
+-- a run of calls on one file, of which nothing is said
+abbrev pub Free : ℕ → List Event → List Event → Type 0
+Free file old new = Span (λ o. Unit {0}) file old new
+
+pub free_start : (file : ℕ) (h : List Event) → Free file h h
+free_start file h = span _ file h (λ o was. tt)
+
+pub free_call : (change : Change) (file : ℕ) (old mid new : List Event) → Free file old mid → ChangesInPart change file mid new → Free file old new
+free_call change file old mid new s step = call _ change file old mid new s step (λ o now. tt)
+
+-- another run on the file
+pub free_then : (Q : Option (List ℕ) → Type 0) (file : ℕ) (old mid new : List Event) → Free file old mid → Meanwhile (OneChanges file Q (Outcome mid) (replies mid)) mid new → LeavesSameBut file (Outcome mid) (Outcome new) → replies new ≡ replies mid → Free file old new
+free_then Q file old mid new s run others same = record {
+  moments = and_then (OneChanges file (λ o. Unit {0}) (Outcome old) (replies old)) (OneChanges file Q (Outcome mid) (replies mid)) old mid new s.moments run
+      (λ image said q. record { same_replies = q.same_replies ∙ s.same; here = tt; others = λ other ne. (s.others other ne).0 (image other) (q.others other ne) });
+  others = leaves_then file (Outcome old) (Outcome mid) (Outcome new) s.others others;
+  same = same ∙ s.same;
+}
+
+-- a run of calls that leaves of each file at most what might have been left before
+pub record Calm (old new : List Event) : Type 0 where
+  pub moments : Meanwhile (LeftNow old) old new
+  pub crash : (n : ℕ) (c : Option (List ℕ)) → Outcome new n c → Outcome old n c
+  pub said : replies new ≡ replies old
+
+pub calm_start : (h : List Event) → Calm h h
+calm_start h = record { moments = started h (LeftNow h) (λ image said w. w); crash = λ n c o. o; said = refl }
+
+pub calm_same : (old mid new : List Event) → Calm old mid → new ≡ mid → Calm old new
+calm_same old mid new calm is = subst (Calm old) (sym is) calm
+
+calm_event : (change : Change) (file : ℕ) (now : Option (List ℕ)) (old mid : List Event) → Calm old mid → ((c : Option (List ℕ)) → OutcomeOf change now (Outcome mid file) c → Outcome mid file c) → Calm old (OnFile change file now ∷ mid)
+calm_event change file now old mid calm less = record {
+  moments = goes_on (LeftNow old) old mid (OnFile change file now) calm.moments (λ image said w. absurd w) (λ image said w. (λ n. crash n (image n) (w.0 n), w.1 ∙ calm.said));
+  crash = crash;
+  said = calm.said;
+}
+  where
+    fewer : (n : ℕ) (c : Option (List ℕ)) → Outcome (OnFile change file now ∷ mid) n c → Outcome mid n c
+    fewer n c o = elim (cases_eq file n) [
+      | inl e ↦ subst (λ (m : ℕ). Outcome mid m c) e (less c (there change file now mid c (subst (λ (m : ℕ). Outcome (OnFile change file now ∷ mid) m c) (sym e) o)))
+      | inr ne ↦ subst (λ (b : Bool). IfTrue b (OutcomeOf change now (Outcome mid n) c) (Outcome mid n c)) (not_same ne) o
+    ]
+      where
+        not_same : file ≢ n → nat_eq file n ≡ false
+        not_same ne = grind (arith, nat_tests)
+
+    crash : (n : ℕ) (c : Option (List ℕ)) → Outcome (OnFile change file now ∷ mid) n c → Outcome old n c
+    crash n c o = calm.crash n c (fewer n c o)
+
+-- a sync, whatever it answers
+pub calm_sync : {T E : Type 0} (r : Result T E) (file : ℕ) (old mid new : List Event) → Calm old mid → Valid mid → OnOk r (new ≡ OnFile Synced file (current mid file) ∷ mid) → OnErr r (ChangesInPart SyncedInPart file mid new) → Calm old new
+calm_sync (Ok x) file old mid new calm valid ok err =
+    subst (Calm old) (sym ok) (calm_event Synced file (current mid file) old mid calm (λ c is. subst (λ (o : Option (List ℕ)). Outcome mid file o) (sym is) (stays mid file valid)))
+calm_sync (Err e) file old mid new calm valid ok (inl same) = calm_same old mid new calm same
+calm_sync (Err e) file old mid new calm valid ok (inr ch) = subst (Calm old) (sym ch.is) (calm_event SyncedInPart file ch.now old mid calm (λ c o. o))

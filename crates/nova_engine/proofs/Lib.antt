@@ -1,12 +1,11 @@
 mod Giving
 mod Fields
 mod Parts
+mod Empty
+mod Storing
 mod LoadLines
 mod Taking
 mod CommandWords
 mod SessionLines
 mod CommandLines
 mod Moving
-mod Empty
-mod Reached
-mod Ending

@@ -1,12 +1,12 @@
 -- A session moves on.
-use Rattle.std.proofs.Common.{◌≡◌, ◌≢◌, ℕ, zero, suc, ◌+◌, ◌-◌, ◌<◌, ◌≤◌, Bool, false, List, [], ◌∷◌, ◌++◌, length, take, Result, Ok, Err, IfOk, refl, sym, ap, ◌∙◌, append_assoc, arith, length-append}
-use Rattle.std.proofs.lemmas.List.{take-append-le}
+use Rattle.std.proofs.Common.{◌≡◌, ◌≢◌, ◌⊎◌, inl, inr, ℕ, zero, suc, ◌+◌, ◌-◌, ◌<◌, ◌≤◌, Bool, false, List, [], ◌∷◌, ◌++◌, length, take, Option, Some, None, Result, Ok, Err, IfOk, refl, sym, ap, ◌∙◌, append_assoc, arith, length-append}
+use Rattle.std.proofs.lemmas.List.{take-append-le, append-nil}
 use Rattle.std.proofs.Math.Seq.{take-append-add}
 use Rattle.std.specs.Result.{MatchResult}
 use Rattle.nova_value.specs.Text.{has_newline}
-use Rattle.nova_outside.specs.History.{Event, Begins}
-use Rattle.nova_outside.specs.Replies.{Gives}
-use Rattle.nova_outside.proofs.ReplyLemmas.{replied_nothing, replied_both, begins_behind, begins_more}
+use Rattle.nova_outside.specs.Disk.{Files}
+use Rattle.nova_outside.specs.History.{Event, Begins, current, replies}
+use Rattle.nova_outside.proofs.ReplyLemmas.{begins_behind, begins_more}
 use Rattle.nova_machine.specs.Lines.{lines_of, whole_lines_of}
 use Rattle.nova_machine.specs.State.{State}
 use Rattle.nova_machine.specs.Steps.{Step, after, after_all}
@@ -16,10 +16,15 @@ use Rattle.nova_machine.proofs.Turns.{after_all-append, text-append, steps-appen
 use Rattle.nova_engine.specs.declared.reader.LineReader.{LineReader}
 use Rattle.nova_engine.specs.declared.session.Session.{Session}
 use Rattle.nova_engine.specs.declared.stop.Stop.{Stop}
-use Rattle.nova_engine.specs.Positions.{Position, load_after, ended_by, commands_in, commands_at, whole_commands_at}
-use Rattle.nova_engine.specs.Steps.{IsWithin, StopsIn}
-use Rattle.nova_engine.specs.Standing.{MovesLine, BreaksLine}
-use Rattle.nova_engine.specs.Moves.{Advances, Breaks, MovesOn, BreaksOn, Finishes, StopsFinish, TakesLast, Ends, StopsEnd}
+use Rattle.nova_engine.specs.declared.kept.Store.{Store}
+use Rattle.nova_engine.specs.declared.load.Pending.{Pending}
+use Rattle.nova_engine.proofs.Storing.{keeps_stands}
+use Rattle.nova_engine.specs.Positions.{Loading, Position, load_after, ended_by, commands_in, commands_at, whole_commands_at}
+use Rattle.nova_engine.specs.declared.stop.Stop.TheVariants.{Disk}
+use Rattle.nova_engine.specs.Steps.{Adds, Adding, IsWithin, StopsIn}
+use Rattle.nova_engine.specs.Stored.{Stands}
+use Rattle.nova_engine.specs.Standing.{StandsForPending, ClosesLoad, MovesLine, BreaksLine}
+use Rattle.nova_engine.specs.Moves.{IsAt, Advances, Breaks, MovesOn, BreaksOn, Finished, Finishes, StopsFinish, TakesLast, Ends, StopsEnd}
 use Rattle.nova_engine.proofs.CommandLines.{commands_at-line, whole_commands_at-line, commands_at-end}
 use Rattle.nova_engine.proofs.Taking.{stops_at_once}
 
@@ -56,17 +61,59 @@ within_behind s xs ys k given is = record {
   behind = behind_first s xs ys k given is;
 }
 
-pub stops_behind : (stop : Stop) (h : Bool) (s : State) (xs ys : List Step) (a b c : List Event) → Gives h a b (text s xs) → StopsIn stop h (after_all s xs) ys b c → StopsIn stop h s (xs ++ ys) a c
-stops_behind stop h s xs ys a b c gives stops honest =
+-- replies behind replies
+pub adds_both : (a b c : List Event) (xs ys : List ℕ) → Adds a b xs → Adds b c ys → Adds a c (xs ++ ys)
+adds_both a b c xs ys one two = two ∙ ap (λ t. t ++ ys) one ∙ append_assoc (replies a) xs ys
+
+pub adds_nothing : (h : Bool) (a : List Event) → Adding h a a []
+adds_nothing h a honest = sym (append-nil (replies a))
+
+after_past : (s : State) (xs ys : List Step) (k : ℕ) → after_all s (take (length xs + k) (xs ++ ys)) ≡ after_all (after_all s xs) (take k ys)
+after_past s xs ys k = ap (after_all s) (take-append-add xs ys k) ∙ after_all-append s xs (take k ys)
+
+held_behind : (stop : Stop) (files : Files) (s : State) (xs ys : List Step) (k : ℕ)
+    → Stands files (after_all (after_all s xs) (take k ys)) ⊎ ((stop ≡ Disk) × Stands files (after_all (after_all s xs) (take (k + 1) ys)))
+    → Stands files (after_all s (take (length xs + k) (xs ++ ys))) ⊎ ((stop ≡ Disk) × Stands files (after_all s (take (length xs + k + 1) (xs ++ ys))))
+held_behind stop files s xs ys k held =
+    let count : length xs + k + 1 ≡ length xs + (k + 1) = omega arith in
+    elim held [
+      | inl same ↦ inl (rw after_past same)
+      | inr next ↦ inr (next.0, rw (count, after_past s xs ys (k + 1)) next.1)
+    ]
+
+pub stops_behind : (stop : Stop) (h : Bool) (s : State) (xs ys : List Step) (a b c : List Event) → Adding h a b (text s xs) → StopsIn stop h (after_all s xs) ys b c → StopsIn stop h s (xs ++ ys) a c
+stops_behind stop h s xs ys a b c adds stops honest =
     let two = stops honest in
     record {
       k = length xs + two.k;
       fits = omega (arith, two.fits, length-append xs ys);
       given = text s xs ++ two.given;
-      replied = replied_both a b c (text s xs) two.given (gives honest) two.replied;
+      replied = adds_both a b c (text s xs) two.given (adds honest) two.replied;
       within = within_behind s xs ys two.k two.given two.within;
       whole = λ other. ap (λ t. text s xs ++ t) (two.whole other) ∙ sym (text_past s xs ys two.k);
+      held = held_behind stop (current c) s xs ys two.k two.held;
     }
+
+after_before : (s : State) (xs ys : List Step) (n : ℕ) → n ≤ length xs → after_all s (take n (xs ++ ys)) ≡ after_all s (take n xs)
+after_before s xs ys n fits = ap (after_all s) (take-append-le n xs ys fits)
+
+-- the state behind one step more, where there may be none
+next_before : (files : Files) (s : State) (xs ys : List Step) (k : ℕ) → k ≤ length xs → Stands files (after_all s (take (suc k) xs))
+    → Stands files (after_all s (take k (xs ++ ys))) ⊎ Stands files (after_all s (take (suc k) (xs ++ ys)))
+next_before files s [] ys zero fits next = inl next
+next_before files s [] ys (suc k) fits next = absurd (omega (arith, fits))
+next_before files s (x ∷ xs) ys zero fits next = inr next
+next_before files s (x ∷ xs) ys (suc k) fits next = next_before files (after s x) xs ys k (omega (arith, fits)) next
+
+held_before : (stop : Stop) (files : Files) (s : State) (xs ys : List Step) (k : ℕ) → k ≤ length xs
+    → Stands files (after_all s (take k xs)) ⊎ ((stop ≡ Disk) × Stands files (after_all s (take (k + 1) xs)))
+    → Stands files (after_all s (take k (xs ++ ys))) ⊎ ((stop ≡ Disk) × Stands files (after_all s (take (k + 1) (xs ++ ys))))
+held_before stop files s xs ys k fits held =
+    let one : k + 1 ≡ suc k = omega arith in
+    elim held [
+      | inl same ↦ inl (rw (after_before s xs ys k fits) same)
+      | inr next ↦ elim (next_before files s xs ys k fits (rw one at next.1)) [ inl here ↦ inl here | inr there ↦ inr (next.0, rw one there) ]
+    ]
 
 -- steps with others to follow
 pub stops_before : (stop : Stop) (h : Bool) (s : State) (xs ys : List Step) (a b : List Event) → StopsIn stop h s xs a b → StopsIn stop h s (xs ++ ys) a b
@@ -82,24 +129,25 @@ stops_before stop h s xs ys a b stops honest =
       replied = one.replied;
       within = record { front = rw front one.within.front; behind = λ some. rw last (one.within.behind some) };
       whole = λ other. one.whole other ∙ sym front;
+      held = held_before stop (current b) s xs ys one.k one.fits one.held;
     }
 
 -- ---- commands behind commands
 
-pub stops_commands-behind : (stop : Stop) (h : Bool) (s : State) (cs ds : List Command) (a b c : List Event) → Gives h a b (text s (steps s cs))
+pub stops_commands-behind : (stop : Stop) (h : Bool) (s : State) (cs ds : List Command) (a b c : List Event) → Adding h a b (text s (steps s cs))
     → StopsIn stop h (after_all s (steps s cs)) (steps (after_all s (steps s cs)) ds) b c → StopsIn stop h s (steps s (cs ++ ds)) a c
-stops_commands-behind stop h s cs ds a b c gives stops =
-    rw steps-append (stops_behind stop h s (steps s cs) (steps (after_all s (steps s cs)) ds) a b c gives stops)
+stops_commands-behind stop h s cs ds a b c adds stops =
+    rw steps-append (stops_behind stop h s (steps s cs) (steps (after_all s (steps s cs)) ds) a b c adds stops)
 
 pub stops_commands-before : (stop : Stop) (h : Bool) (s : State) (cs ds : List Command) (a b : List Event) → StopsIn stop h s (steps s cs) a b → StopsIn stop h s (steps s (cs ++ ds)) a b
 stops_commands-before stop h s cs ds a b stops =
     rw steps-append (stops_before stop h s (steps s cs) (steps (after_all s (steps s cs)) ds) a b stops)
 
-pub gives_commands : (h : Bool) (s : State) (cs ds : List Command) (a b c : List Event) → Gives h a b (text s (steps s cs))
-    → Gives h b c (text (after_all s (steps s cs)) (steps (after_all s (steps s cs)) ds)) → Gives h a c (text s (steps s (cs ++ ds)))
-gives_commands h s cs ds a b c one two honest =
+pub adds_commands : (h : Bool) (s : State) (cs ds : List Command) (a b c : List Event) → Adding h a b (text s (steps s cs))
+    → Adding h b c (text (after_all s (steps s cs)) (steps (after_all s (steps s cs)) ds)) → Adding h a c (text s (steps s (cs ++ ds)))
+adds_commands h s cs ds a b c one two honest =
     let rest = steps (after_all s (steps s cs)) ds in
-    rw (steps-append s cs ds, text-append s (steps s cs) rest) (replied_both a b c (text s (steps s cs)) (text (after_all s (steps s cs)) rest) (one honest) (two honest))
+    rw (steps-append s cs ds, text-append s (steps s cs) rest) (adds_both a b c (text s (steps s cs)) (text (after_all s (steps s cs)) rest) (one honest) (two honest))
 
 after_commands : (s : State) (cs ds : List Command) → after_all s (steps s (cs ++ ds)) ≡ after_all (after_all s (steps s cs)) (steps (after_all s (steps s cs)) ds)
 after_commands s cs ds = ap (after_all s) (steps-append s cs ds) ∙ after_all-append s (steps s cs) (steps (after_all s (steps s cs)) ds)
@@ -107,16 +155,16 @@ after_commands s cs ds = ap (after_all s) (steps-append s cs ds) ∙ after_all-a
 -- ---- bytes behind bytes
 
 pub advances_nothing : (h : Bool) (p : Position) (a : List Event) → Advances h p p a a []
-advances_nothing h p a = record { commands = []; state = refl; gives = λ honest. replied_nothing a; cut = λ more. refl; whole = λ more. refl }
+advances_nothing h p a = record { commands = []; state = refl; adds = adds_nothing h a; cut = λ more. refl; whole = λ more. refl }
 
 pub advances_both : (h : Bool) (p q r : Position) (a b c : List Event) (xs ys : List ℕ) → Advances h p q a b xs → Advances h q r b c ys → Advances h p r a c (xs ++ ys)
 advances_both h p q r a b c xs ys one two =
     let state = one.state in
-    let gives : Gives h b c (text (after_all p.state (steps p.state one.commands)) (steps (after_all p.state (steps p.state one.commands)) two.commands)) = rw state at two.gives in
+    let adds : Adding h b c (text (after_all p.state (steps p.state one.commands)) (steps (after_all p.state (steps p.state one.commands)) two.commands)) = rw state at two.adds in
     record {
       commands = one.commands ++ two.commands;
       state = two.state ∙ ap (λ s. after_all s (steps s two.commands)) state ∙ sym (after_commands p.state one.commands two.commands);
-      gives = gives_commands h p.state one.commands two.commands a b c one.gives gives;
+      adds = adds_commands h p.state one.commands two.commands a b c one.adds adds;
       cut = λ more. ap (commands_at p) (append_assoc xs ys more) ∙ one.cut (ys ++ more) ∙ ap (λ cs. one.commands ++ cs) (two.cut more) ∙ sym (append_assoc one.commands two.commands (commands_at r more));
       whole = λ more. ap (whole_commands_at p) (append_assoc xs ys more) ∙ one.whole (ys ++ more) ∙ ap (λ cs. one.commands ++ cs) (two.whole more) ∙ sym (append_assoc one.commands two.commands (whole_commands_at r more));
     }
@@ -127,7 +175,7 @@ breaks_both stop h p q a b c xs ys one two =
     let stops : StopsIn stop h (after_all p.state (steps p.state one.commands)) (steps (after_all p.state (steps p.state one.commands)) two.commands) b c = rw state at two.stops in
     record {
       commands = one.commands ++ two.commands;
-      stops = stops_commands-behind stop h p.state one.commands two.commands a b c one.gives stops;
+      stops = stops_commands-behind stop h p.state one.commands two.commands a b c one.adds stops;
       cut = λ more. let rest = two.cut more in
           (rest.0, ap (commands_at p) (append_assoc xs ys more) ∙ one.cut (ys ++ more) ∙ ap (λ cs. one.commands ++ cs) rest.1 ∙ sym (append_assoc one.commands two.commands rest.0));
     }
@@ -160,7 +208,7 @@ breaks_before stop h r a b xs ys one p at =
 pub breaks_at_once : (stop : Stop) (h : Bool) (r : LineReader) (a : List Event) (bytes : List ℕ) → BreaksOn stop h r a a bytes
 breaks_at_once stop h r a bytes p at = record {
   commands = [];
-  stops = stops_at_once stop h p.state [] a;
+  stops = stops_at_once stop h p.state [] r.session.store a at.stands;
   cut = λ more. (commands_at p (bytes ++ more), refl);
 }
 
@@ -177,7 +225,7 @@ moves_carry h old new a bytes same carry p at =
       record {
         commands = [];
         state = refl;
-        gives = λ honest. replied_nothing a;
+        adds = adds_nothing h a;
         cut = λ more. ap (λ t. commands_in p.load (lines_of t)) (sym (append_assoc p.carry bytes more));
         whole = λ more. ap (λ t. ended_commands (commands_in p.load (whole_lines_of t))) (sym (append_assoc p.carry bytes more));
       },
@@ -196,7 +244,7 @@ moves_line h old new a b line bytes is clean moves carry p at =
       record {
         commands = ended_by p.load line;
         state = refl;
-        gives = takes.gives;
+        adds = takes.adds;
         cut = λ more. commands_at-line p line bytes more whole clean;
         whole = λ more. whole_commands_at-line p line bytes more whole clean;
       },
@@ -220,7 +268,7 @@ takes_no_last h old a none p at = record {
   load = p.load;
   stands = at.stands;
   pending = at.pending;
-  gives = λ honest. replied_nothing a;
+  adds = adds_nothing h a;
   cut = ap (λ t. commands_in p.load (lines_of (t ++ []))) (at.carried ∙ none);
 }
 
@@ -238,7 +286,7 @@ takes_last h (Ok new) old a b some moves = λ p at.
       load = load_after p.load old.carry.items;
       stands = takes.stands;
       pending = taken.pending;
-      gives = takes.gives;
+      adds = takes.adds;
       cut = rw (← same) (commands_at-end p clean other);
     }
 takes_last h (Err stop) old a b some breaks = λ p at.
@@ -253,10 +301,24 @@ pub finishes : (h : Bool) (r : Result (Unit {0}) Stop) (old : LineReader) (new :
     → MatchResult r (λ _. Ends h new b c) (λ stop. StopsEnd stop h new b c) → MatchResult r (λ _. Finishes h old a c) (λ stop. StopsFinish stop h old a c)
 finishes h (Ok u) old new a b c one two = λ p at.
     let rest = one p at in
-    rw rest.cut (gives_commands h p.state rest.commands (commands_in rest.load []) a b c rest.gives (two (after_all p.state (steps p.state rest.commands)) rest.load rest.stands rest.pending))
+    let end = two (after_all p.state (steps p.state rest.commands)) rest.load rest.stands rest.pending in
+    rw rest.cut (record {
+      adds = adds_commands h p.state rest.commands (commands_in rest.load []) a b c rest.adds end.adds;
+      held = λ honest. rw (after_commands p.state rest.commands (commands_in rest.load [])) (end.held honest);
+    })
 finishes h (Err stop) old new a b c one two = λ p at.
     let rest = one p at in
-    rw rest.cut (stops_commands-behind stop h p.state rest.commands (commands_in rest.load []) a b c rest.gives (two (after_all p.state (steps p.state rest.commands)) rest.load rest.stands rest.pending))
+    rw rest.cut (stops_commands-behind stop h p.state rest.commands (commands_in rest.load []) a b c rest.adds (two (after_all p.state (steps p.state rest.commands)) rest.load rest.stands rest.pending))
+
+-- a load that the input cut off was taken
+pub ends_closed : (h : Bool) (old : Session) (new : Store) (pending : Pending) (a b : List Event) → old.load ≡ Some pending → ClosesLoad h old.store pending false new a b → Ends h old a b
+ends_closed h old new pending a b is closes s load stands for = with_load load (rw is at for)
+  where
+    with_load : (load : Option Loading) → StandsForPending (Some pending) load → Finished h (after_all s (steps s (commands_in load []))) a b (text s (steps s (commands_in load [])))
+    with_load None for = absurd for
+    with_load (Some rows) for =
+        let takes = closes rows for s stands in
+        rw (append-nil rows.rows) (record { adds = takes.adds; held = λ honest. keeps_stands _ _ b _ (takes.stands.keeps honest) })
 
 -- ---- lines of a piece
 

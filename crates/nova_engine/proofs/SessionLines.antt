@@ -4,41 +4,43 @@ use Rattle.std.specs.Result.{MatchResult}
 use Rattle.std.specs.FinMap as fin
 use Rattle.nova_delta.specs.Merge.{TableValue, merge_of}
 use Rattle.nova_outside.specs.History.{Event}
-use Rattle.nova_outside.specs.Replies.{Gives}
-use Rattle.nova_machine.specs.Lines.{words_of}
+use Rattle.nova_outside.specs.Replies.{Gives, GivesInPart}
+use Rattle.nova_machine.specs.Lines.{words_of, whole_lines_of}
 use Rattle.nova_machine.specs.Flow.{Flow, channel_in}
 use Rattle.nova_machine.specs.State.{State, newest, newest_table}
 use Rattle.nova_machine.specs.Steps.{Step, Load, Show, Refused, after}
-use Rattle.nova_machine.specs.Commands.{WithRows, begins_load, single, is_dot, not_built, steps}
+use Rattle.nova_machine.specs.Commands.{WithRows, begins_load, single, is_dot, not_built, steps, read_rows}
 use Rattle.nova_machine.specs.Replies.{text, reply_to, line_end, loaded_line, shown_line, row_lines}
 use Rattle.nova_engine.specs.declared.load.Pending.{Pending}
 use Rattle.nova_engine.specs.declared.load.Pending.TheVariants as pending
 use Rattle.nova_engine.specs.declared.rows.Rows.{Rows}
 use Rattle.nova_engine.specs.declared.stop.Stop.{Stop}
-use Rattle.nova_engine.specs.declared.store.Store.{Store}
+use Rattle.nova_engine.specs.declared.kept.Store.{Store}
 use Rattle.nova_engine.specs.declared.words.CommandLine.TheVariants as line
-use Rattle.nova_engine.specs.Flow.{raw_flow}
+use Rattle.nova_engine.specs.Flow.{raw_flow, raw_schema}
+use Rattle.nova_engine.specs.declared.stop.Stop.TheVariants.{Reply}
 use Rattle.nova_engine.specs.Positions.{Loading, load_after, ended_by}
-use Rattle.nova_engine.specs.Steps.{BreaksOff, StopsIn}
-use Rattle.nova_engine.specs.Standing.{StandsFor, StandsForLoad, Begins, TakesLine, Takes, ClosesLoad, BreaksLoad, MovesLine, BreaksLine}
+use Rattle.nova_engine.specs.Steps.{StopsIn}
+use Rattle.nova_engine.specs.Stored.{load_of, entries_read, ends_whole, with_newlines}
+use Rattle.nova_machine.proofs.Cuts.{whole_lines_at}
+use Rattle.nova_value.specs.declared.schema.Entry.{Entry}
+use Rattle.nova_engine.specs.Standing.{AreLines, StandsFor, StandsForLoad, StandsForPending, BeginsLoad, TakesLine, Takes, LoadsFrom, LoadBreaks, ClosesLoad, BreaksLoad, MovesLine, BreaksLine, TakesSessionLine}
 use Rattle.nova_engine.specs.Words.{line_of}
 use Rattle.nova_engine.proofs.CommandWords.{IsLineOf, line_is}
-use Rattle.nova_engine.proofs.Taking.{steps-load, steps-other_load, takes_step, takes_nothing, stops_step, stands_loaded}
+use Rattle.nova_engine.proofs.Taking.{steps-load, steps-other_load, takes_reply, takes_nothing, stops_reply, stops_at_once, takes_load, stops_load}
 
 -- the load's command makes this one step
 abbrev MakesStep : Pending → Bool → (State → Step) → Type 0
 MakesStep p is_ended x = (s : State) (load : Loading) → s.flow ≡ raw_flow → StandsForLoad p load → steps s (WithRows load.words load.rows is_ended ∷ []) ≡ x s ∷ []
 
-closes_step : (h : Bool) (old new : Store) (p : Pending) (is_ended : Bool) (x : State → Step) (a b : List Event) → MakesStep p is_ended x
-    → ((s : State) → StandsFor old s → StandsFor new (after s (x s)) × Gives h a b (reply_to s (x s))) → ClosesLoad h old p is_ended new a b
-closes_step h old new p is_ended x a b makes takes load is s stands =
-    let taken = takes s stands in
-    takes_step h s (x s) (steps s (WithRows load.words load.rows is_ended ∷ [])) new a b (makes s load stands.flow is) taken.0 taken.1
+-- a refusal of a load was replied, or broke off
+closes_refusal : (h : Bool) (store : Store) (p : Pending) (is_ended : Bool) (line : List ℕ) (a b : List Event) → MakesStep p is_ended (λ s. Refused line) → Gives h a b (line_end line) → ClosesLoad h store p is_ended store a b
+closes_refusal h store p is_ended line a b makes gives load is s stands =
+    takes_reply h s (Refused line) (steps s (WithRows load.words load.rows is_ended ∷ [])) store a b (makes s load stands.flow is) refl stands gives
 
-breaks_step : (stop : Stop) (h : Bool) (old : Store) (p : Pending) (is_ended : Bool) (x : State → Step) (a b : List Event) → MakesStep p is_ended x
-    → ((s : State) → StandsFor old s → BreaksOff stop h a b (reply_to s (x s))) → BreaksLoad stop h old p is_ended a b
-breaks_step stop h old p is_ended x a b makes broke load is s stands =
-    stops_step stop h s (x s) (steps s (WithRows load.words load.rows is_ended ∷ [])) a b (makes s load stands.flow is) (broke s stands)
+breaks_refusal : (h : Bool) (store : Store) (p : Pending) (is_ended : Bool) (line : List ℕ) (a b : List Event) → MakesStep p is_ended (λ s. Refused line) → GivesInPart h a b (line_end line) → BreaksLoad Reply h store p is_ended a b
+breaks_refusal h store p is_ended line a b makes broke load is s stands =
+    stops_reply h s (Refused line) (steps s (WithRows load.words load.rows is_ended ∷ [])) store a b (makes s load stands.flow is) refl stands broke
 
 -- refusals of a load
 makes_not_built : (is_ended : Bool) → MakesStep pending.NotBuilt is_ended (λ s. Refused (codes "no 90 not-built"))
@@ -51,46 +53,68 @@ makes_unfinished : (rows : Rows) → MakesStep (pending.Rows rows) false (λ s. 
 makes_unfinished rows s load flow is = let are = is.1 in steps-load s load false (Ok are.entries) flow is.0 are.read
 
 pub closes_not_built : (h : Bool) (store : Store) (is_ended : Bool) (a b : List Event) → Gives h a b (line_end (codes "no 90 not-built")) → ClosesLoad h store pending.NotBuilt is_ended store a b
-closes_not_built h store is_ended a b gives = closes_step h store store pending.NotBuilt is_ended _ a b (makes_not_built is_ended) (λ s stands. (stands, gives))
+closes_not_built h store is_ended a b gives = closes_refusal h store pending.NotBuilt is_ended (codes "no 90 not-built") a b (makes_not_built is_ended) gives
 
-pub breaks_not_built : (stop : Stop) (h : Bool) (store : Store) (is_ended : Bool) (a b : List Event) → BreaksOff stop h a b (line_end (codes "no 90 not-built")) → BreaksLoad stop h store pending.NotBuilt is_ended a b
-breaks_not_built stop h store is_ended a b broke = breaks_step stop h store pending.NotBuilt is_ended _ a b (makes_not_built is_ended) (λ s stands. broke)
+pub breaks_not_built : (h : Bool) (store : Store) (is_ended : Bool) (a b : List Event) → GivesInPart h a b (line_end (codes "no 90 not-built")) → BreaksLoad Reply h store pending.NotBuilt is_ended a b
+breaks_not_built h store is_ended a b broke = breaks_refusal h store pending.NotBuilt is_ended (codes "no 90 not-built") a b (makes_not_built is_ended) broke
 
 pub closes_bad_row : (h : Bool) (store : Store) (n : ℕ) (is_ended : Bool) (a b : List Event) → Gives h a b (line_end (codes "no 6 bad-row " ++ decimal n)) → ClosesLoad h store (pending.BadRow n) is_ended store a b
-closes_bad_row h store n is_ended a b gives = closes_step h store store (pending.BadRow n) is_ended _ a b (makes_bad_row n is_ended) (λ s stands. (stands, gives))
+closes_bad_row h store n is_ended a b gives = closes_refusal h store (pending.BadRow n) is_ended (codes "no 6 bad-row " ++ decimal n) a b (makes_bad_row n is_ended) gives
 
-pub breaks_bad_row : (stop : Stop) (h : Bool) (store : Store) (n : ℕ) (is_ended : Bool) (a b : List Event) → BreaksOff stop h a b (line_end (codes "no 6 bad-row " ++ decimal n)) → BreaksLoad stop h store (pending.BadRow n) is_ended a b
-breaks_bad_row stop h store n is_ended a b broke = breaks_step stop h store (pending.BadRow n) is_ended _ a b (makes_bad_row n is_ended) (λ s stands. broke)
+pub breaks_bad_row : (h : Bool) (store : Store) (n : ℕ) (is_ended : Bool) (a b : List Event) → GivesInPart h a b (line_end (codes "no 6 bad-row " ++ decimal n)) → BreaksLoad Reply h store (pending.BadRow n) is_ended a b
+breaks_bad_row h store n is_ended a b broke = breaks_refusal h store (pending.BadRow n) is_ended (codes "no 6 bad-row " ++ decimal n) a b (makes_bad_row n is_ended) broke
 
 pub closes_unfinished : (h : Bool) (store : Store) (rows : Rows) (a b : List Event) → Gives h a b (line_end (codes "no 7 unfinished-load")) → ClosesLoad h store (pending.Rows rows) false store a b
-closes_unfinished h store rows a b gives = closes_step h store store (pending.Rows rows) false _ a b (makes_unfinished rows) (λ s stands. (stands, gives))
+closes_unfinished h store rows a b gives = closes_refusal h store (pending.Rows rows) false (codes "no 7 unfinished-load") a b (makes_unfinished rows) gives
 
-pub breaks_unfinished : (stop : Stop) (h : Bool) (store : Store) (rows : Rows) (a b : List Event) → BreaksOff stop h a b (line_end (codes "no 7 unfinished-load")) → BreaksLoad stop h store (pending.Rows rows) false a b
-breaks_unfinished stop h store rows a b broke = breaks_step stop h store (pending.Rows rows) false _ a b (makes_unfinished rows) (λ s stands. broke)
+pub breaks_unfinished : (h : Bool) (store : Store) (rows : Rows) (a b : List Event) → GivesInPart h a b (line_end (codes "no 7 unfinished-load")) → BreaksLoad Reply h store (pending.Rows rows) false a b
+breaks_unfinished h store rows a b broke = breaks_refusal h store (pending.Rows rows) false (codes "no 7 unfinished-load") a b (makes_unfinished rows) broke
 
 -- the reply to a load of the one channel
-reply_loaded : (store : Store) (s : State) → StandsFor store s → loaded_line (codes "raw") (store.version + 1) ≡ loaded_line (channel_in s.flow 0).name (newest s 0 + 1)
-reply_loaded store s stands =
+reply_loaded : (h : Bool) (store : Store) (a : List Event) (s : State) → StandsFor h store a s → loaded_line (codes "raw") (store.version + 1) ≡ loaded_line (channel_in s.flow 0).name (newest s 0 + 1)
+reply_loaded h store a s stands =
     ap (λ (f : Flow). loaded_line (channel_in f 0).name (store.version + 1)) (sym stands.flow)
     ∙ ap (λ n. loaded_line (channel_in s.flow 0).name (n + 1)) (sym stands.version)
 
--- a load that was merged, or broke off
+-- the payload of a load that was read
+ends_whole-line : (l rest : List ℕ) → ends_whole rest ≡ true → ends_whole (l ++ 10 ∷ rest) ≡ true
+ends_whole-line [] [] whole = refl
+ends_whole-line [] (b ∷ bs) whole = whole
+ends_whole-line (c ∷ []) rest whole = ends_whole-line [] rest whole
+ends_whole-line (c ∷ (d ∷ ds)) rest whole = ends_whole-line (d ∷ ds) rest whole
+
+ends_whole-lines : (rows : List (List ℕ)) → ends_whole (with_newlines rows) ≡ true
+ends_whole-lines [] = refl
+ends_whole-lines (r ∷ rs) = ends_whole-line r (with_newlines rs) (ends_whole-lines rs)
+
+whole_lines-again : (rows : List (List ℕ)) → AreLines rows → whole_lines_of (with_newlines rows) ≡ rows
+whole_lines-again [] are = refl
+whole_lines-again (r ∷ rs) are = whole_lines_at r (with_newlines rs) are.0 ∙ ap (λ (ls : List (List ℕ)). r ∷ ls) (whole_lines-again rs are.1)
+
+payload_reads : (rows : List (List ℕ)) (payload : List ℕ) (es : List Entry) → AreLines rows → read_rows raw_schema 1 rows ≡ Ok es → payload ≡ with_newlines rows → load_of payload ≡ Some es
+payload_reads rows payload es are read is =
+    ap load_of is
+    ∙ ap (λ (b : Bool). if b then entries_read (read_rows raw_schema 1 (whole_lines_of (with_newlines rows))) else None) (ends_whole-lines rows)
+    ∙ ap (λ (ls : List (List ℕ)). entries_read (read_rows raw_schema 1 ls)) (whole_lines-again rows are)
+    ∙ ap entries_read read
+
+-- a load that was merged and kept, or stopped
 pub closes_loaded : (h : Bool) (r : Result Store Stop) (old : Store) (rows : Rows) (a b : List Event)
     → IfOk r (λ new. new.table ≡ merge_of old.table rows.delta) → IfOk r (λ new. new.version ≡ old.version + 1)
-    → MatchResult r (λ _. Gives h a b (loaded_line (codes "raw") (old.version + 1))) (λ stop. BreaksOff stop h a b (loaded_line (codes "raw") (old.version + 1)))
+    → MatchResult r (λ new. LoadsFrom h old new rows.payload.items a b (loaded_line (codes "raw") (old.version + 1))) (λ stop. LoadBreaks stop h old rows.payload.items a b (loaded_line (codes "raw") (old.version + 1)))
     → MatchResult r (λ new. ClosesLoad h old (pending.Rows rows) true new a b) (λ stop. BreaksLoad stop h old (pending.Rows rows) true a b)
-closes_loaded h (Ok new) old rows a b table version gives = λ load is s stands.
+closes_loaded h (Ok new) old rows a b table version loads = λ load is s stands.
     let are = is.1 in
-    takes_step h s (Load 0 are.entries) (steps s (WithRows load.words load.rows true ∷ [])) new a b (steps-load s load true (Ok are.entries) stands.flow is.0 are.read)
-    (stands_loaded old new s are.entries rows.delta stands are.made table version) (rw (← reply_loaded old s stands) gives)
-closes_loaded h (Err stop) old rows a b table version broke = λ load is s stands.
+    takes_load h old new rows.payload.items s are.entries rows.delta (steps s (WithRows load.words load.rows true ∷ [])) a b (steps-load s load true (Ok are.entries) stands.flow is.0 are.read) stands are.made
+      (payload_reads load.rows rows.payload.items are.entries are.clean are.read are.spelled) table version (rw (← reply_loaded h old a s stands) loads)
+closes_loaded h (Err stop) old rows a b table version breaks = λ load is s stands.
     let are = is.1 in
-    stops_step stop h s (Load 0 are.entries) (steps s (WithRows load.words load.rows true ∷ [])) a b (steps-load s load true (Ok are.entries) stands.flow is.0 are.read)
-    (rw (← reply_loaded old s stands) broke)
+    stops_load stop h old rows.payload.items s are.entries (steps s (WithRows load.words load.rows true ∷ [])) a b (steps-load s load true (Ok are.entries) stands.flow is.0 are.read) stands
+      (payload_reads load.rows rows.payload.items are.entries are.clean are.read are.spelled) (rw (← reply_loaded h old a s stands) breaks)
 
 -- the reply to a show of the one channel
-reply_shown : (store : Store) (s : State) → StandsFor store s → row_lines store.table ++ shown_line (codes "raw") store.version (fin.len store.table.rows) ≡ reply_to s (Show 0)
-reply_shown store s stands =
+reply_shown : (h : Bool) (store : Store) (a : List Event) (s : State) → StandsFor h store a s → row_lines store.table ++ shown_line (codes "raw") store.version (fin.len store.table.rows) ≡ reply_to s (Show 0)
+reply_shown h store a s stands =
     ap (λ (t : TableValue). row_lines t ++ shown_line (codes "raw") store.version (fin.len t.rows)) (sym stands.table)
     ∙ ap (λ n. row_lines (newest_table s 0) ++ shown_line (codes "raw") n (fin.len (newest_table s 0).rows)) (sym stands.version)
     ∙ ap (λ (f : Flow). row_lines (newest_table s 0) ++ shown_line (channel_in f 0).name (newest s 0) (fin.len (newest_table s 0).rows)) (sym stands.flow)
@@ -103,13 +127,13 @@ load_none : (text : List ℕ) → begins_load (words_of text) ≡ false → load
 load_none text is_load = ap (λ (b : Bool). if b then Some (let load : Loading = record { words = words_of text; rows = [] } in load) else None) is_load
 
 moves_to_none : (h : Bool) (old new : Store) (a b : List Event) (text : List ℕ) → begins_load (words_of text) ≡ false
-    → ((s : State) → StandsFor old s → Takes h s (steps s (ended_by None text)) new a b)
+    → ((s : State) → StandsFor h old a s → Takes h s (steps s (ended_by None text)) new a b)
     → MovesLine h (record { store = old; load = None }) (record { store = new; load = None }) a b text
 moves_to_none h old new a b text is_load takes None is = record { takes = takes; pending = rw (load_none text is_load) tt }
 moves_to_none h old new a b text is_load takes (Some load) is = absurd is
 
 breaks_from_none : (stop : Stop) (h : Bool) (old : Store) (a b : List Event) (text : List ℕ)
-    → ((s : State) → StandsFor old s → StopsIn stop h s (steps s (ended_by None text)) a b) → BreaksLine stop h (record { store = old; load = None }) a b text
+    → ((s : State) → StandsFor h old a s → StopsIn stop h s (steps s (ended_by None text)) a b) → BreaksLine stop h (record { store = old; load = None }) a b text
 breaks_from_none stop h old a b text stops None is = stops
 breaks_from_none stop h old a b text stops (Some load) is = absurd is
 
@@ -120,7 +144,7 @@ moves_blank h store a text is =
     moves_to_none h store store a a text none
     (λ s stands. takes_nothing h s (steps s (ended_by None text)) store a (ended_single text s [] none (ap (λ (ws : List (List ℕ)). steps s (single ws)) words)) stands)
 
-pub moves_load : (h : Bool) (store : Store) (p : Pending) (a : List Event) (text : List ℕ) (is_raw : Bool) → line.Load is_raw ≡ line_of (words_of text) → Begins is_raw p
+pub moves_load : (h : Bool) (store : Store) (p : Pending) (a : List Event) (text : List ℕ) (is_raw : Bool) → line.Load is_raw ≡ line_of (words_of text) → BeginsLoad is_raw p
     → MovesLine h (record { store = store; load = None }) (record { store = store; load = Some p }) a a text
 moves_load h store p a text is_raw is begins None none =
     let facts : IsLineOf (line.Load is_raw) (words_of text) = subst (λ k. IsLineOf k (words_of text)) (sym is) (line_is (words_of text)) in
@@ -137,14 +161,14 @@ pub moves_other : (h : Bool) (store : Store) (a b : List Event) (text : List ℕ
 moves_other h store a b text is gives =
     let facts : IsLineOf line.Other (words_of text) = subst (λ k. IsLineOf k (words_of text)) (sym is) (line_is (words_of text)) in
     moves_to_none h store store a b text facts.0
-    (λ s stands. takes_step h s (Refused (codes "no 90 not-built")) (steps s (ended_by None text)) store a b (ended_single text s not_built facts.0 (facts.1 s stands.flow)) stands gives)
+    (λ s stands. takes_reply h s (Refused (codes "no 90 not-built")) (steps s (ended_by None text)) store a b (ended_single text s not_built facts.0 (facts.1 s stands.flow)) refl stands gives)
 
-pub breaks_other : (stop : Stop) (h : Bool) (store : Store) (a b : List Event) (text : List ℕ) → line.Other ≡ line_of (words_of text) → BreaksOff stop h a b (line_end (codes "no 90 not-built"))
-    → BreaksLine stop h (record { store = store; load = None }) a b text
-breaks_other stop h store a b text is broke =
+pub breaks_other : (h : Bool) (store : Store) (a b : List Event) (text : List ℕ) → line.Other ≡ line_of (words_of text) → GivesInPart h a b (line_end (codes "no 90 not-built"))
+    → BreaksLine Reply h (record { store = store; load = None }) a b text
+breaks_other h store a b text is broke =
     let facts : IsLineOf line.Other (words_of text) = subst (λ k. IsLineOf k (words_of text)) (sym is) (line_is (words_of text)) in
-    breaks_from_none stop h store a b text
-    (λ s stands. stops_step stop h s (Refused (codes "no 90 not-built")) (steps s (ended_by None text)) a b (ended_single text s not_built facts.0 (facts.1 s stands.flow)) broke)
+    breaks_from_none Reply h store a b text
+    (λ s stands. stops_reply h s (Refused (codes "no 90 not-built")) (steps s (ended_by None text)) store a b (ended_single text s not_built facts.0 (facts.1 s stands.flow)) refl stands broke)
 
 pub moves_show : (h : Bool) (store : Store) (a b : List Event) (text : List ℕ) → line.ShowRaw ≡ line_of (words_of text)
     → Gives h a b (row_lines store.table ++ shown_line (codes "raw") store.version (fin.len store.table.rows))
@@ -152,15 +176,15 @@ pub moves_show : (h : Bool) (store : Store) (a b : List Event) (text : List ℕ)
 moves_show h store a b text is gives =
     let facts : IsLineOf line.ShowRaw (words_of text) = subst (λ k. IsLineOf k (words_of text)) (sym is) (line_is (words_of text)) in
     moves_to_none h store store a b text facts.0
-    (λ s stands. takes_step h s (Show 0) (steps s (ended_by None text)) store a b (ended_single text s (Show 0 ∷ []) facts.0 (facts.1 s stands.flow)) stands
-    (rw (← reply_shown store s stands) gives))
+    (λ s stands. takes_reply h s (Show 0) (steps s (ended_by None text)) store a b (ended_single text s (Show 0 ∷ []) facts.0 (facts.1 s stands.flow)) refl stands
+    (rw (← reply_shown h store a s stands) gives))
 
-pub breaks_show : (stop : Stop) (h : Bool) (store : Store) (a b : List Event) (text : List ℕ) → line.ShowRaw ≡ line_of (words_of text)
-    → BreaksOff stop h a b (row_lines store.table ++ shown_line (codes "raw") store.version (fin.len store.table.rows)) → BreaksLine stop h (record { store = store; load = None }) a b text
-breaks_show stop h store a b text is broke =
+pub breaks_show : (h : Bool) (store : Store) (a b : List Event) (text : List ℕ) → line.ShowRaw ≡ line_of (words_of text)
+    → GivesInPart h a b (row_lines store.table ++ shown_line (codes "raw") store.version (fin.len store.table.rows)) → BreaksLine Reply h (record { store = store; load = None }) a b text
+breaks_show h store a b text is broke =
     let facts : IsLineOf line.ShowRaw (words_of text) = subst (λ k. IsLineOf k (words_of text)) (sym is) (line_is (words_of text)) in
-    breaks_from_none stop h store a b text
-    (λ s stands. stops_step stop h s (Show 0) (steps s (ended_by None text)) a b (ended_single text s (Show 0 ∷ []) facts.0 (facts.1 s stands.flow)) (rw (← reply_shown store s stands) broke))
+    breaks_from_none Reply h store a b text
+    (λ s stands. stops_reply h s (Show 0) (steps s (ended_by None text)) store a b (ended_single text s (Show 0 ∷ []) facts.0 (facts.1 s stands.flow)) refl stands (rw (← reply_shown h store a s stands) broke))
 
 -- a line that a load takes
 pub moves_dot : (h : Bool) (old new : Store) (p : Pending) (a b : List Event) (text : List ℕ) → is_dot text ≡ true → ClosesLoad h old p true new a b

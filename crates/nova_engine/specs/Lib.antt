@@ -2,8 +2,8 @@ pub mod Buffered
 pub mod Flow
 pub mod Words
 pub mod Positions
+pub mod Stored
 pub mod Steps
 pub mod Standing
 pub mod Moves
 pub mod Status
-pub mod Ends

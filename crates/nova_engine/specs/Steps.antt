@@ -1,39 +1,44 @@
--- Steps of the machine, and the replies that were given of them.
-use Rattle.std.specs.Prelude.{◌≡◌, ◌≢◌, ℕ, ◌-◌, ◌<◌, ◌≤◌, Bool, List, [], length, take, IsTrue}
-use Rattle.std.specs.Prelude.{Result, IsErrOf}
+-- Steps of the machine, the replies that were given of them, and what the files hold behind them.
+use Rattle.std.specs.Prelude.{◌≡◌, ◌≢◌, ◌⊎◌, ℕ, ◌+◌, ◌-◌, ◌<◌, ◌≤◌, Bool, List, [], ◌++◌, length, take, IsTrue, Result, IsErrOf}
 use Rattle.nova_outside.specs.Causes.{Rose}
-use Rattle.nova_outside.specs.History.{Event, Begins}
-use Rattle.nova_outside.specs.Replies.{HasReplied, Gives, GivesInPart}
+use Rattle.nova_outside.specs.History.{Event, Begins, current, replies}
 use Rattle.nova_machine.specs.State.{State}
-use Rattle.nova_machine.specs.Steps.{Step}
+use Rattle.nova_machine.specs.Steps.{Step, after_all}
 use Rattle.nova_machine.specs.Replies.{text}
 use Rattle.nova_engine.specs.declared.stop.Stop.{Stop}
-use Rattle.nova_engine.specs.declared.stop.Stop.TheVariants.{Reply, Memory}
+use Rattle.nova_engine.specs.declared.stop.Stop.TheVariants.{Disk, Reply}
+use Rattle.nova_engine.specs.Stored.{Stands}
+
+-- these bytes were replied
+abbrev pub Adds : List Event → List Event → List ℕ → Type 0
+Adds old new bytes = replies new ≡ replies old ++ bytes
+
+-- the same of a host that is honest
+abbrev pub Adding : Bool → List Event → List Event → List ℕ → Type 0
+Adding is_honest old new bytes = IsTrue is_honest → Adds old new bytes
 
 -- a front of the text of k steps that begins with the text of k - 1
 pub record IsWithin (s : State) (xs : List Step) (k : ℕ) (given : List ℕ) : Type 0 where
   pub front : Begins given (text s (take k xs))
   pub behind : 0 < k → Begins (text s (take (k - 1) xs)) given
 
--- the call stopped within the first k of these steps; but for a failed reply, right behind them
+-- The call stopped within the first k of these steps; but for a failed reply, right behind them. The files hold the state behind them, or, after a fault of the disk, perhaps behind one step more.
 pub record Stops (stop : Stop) (s : State) (xs : List Step) (old new : List Event) : Type 0 where
   pub k : ℕ
   pub fits : k ≤ length xs
   pub given : List ℕ
-  pub replied : HasReplied old new given
+  pub replied : Adds old new given
   pub within : IsWithin s xs k given
   pub whole : stop ≢ Reply → given ≡ text s (take k xs)
+  pub held : Stands (current new) (after_all s (take k xs)) ⊎ ((stop ≡ Disk) × Stands (current new) (after_all s (take (k + 1) xs)))
 
 -- the same of a host that is honest
 abbrev pub StopsIn : Stop → Bool → State → List Step → List Event → List Event → Type 0
 StopsIn stop is_honest s xs old new = IsTrue is_honest → Stops stop s xs old new
 
--- a call that replies these bytes stopped: on the way through them, or for want of memory before the first
-abbrev pub BreaksOff : Stop → Bool → List Event → List Event → List ℕ → Type 0
-BreaksOff Reply is_honest old new bytes = GivesInPart is_honest old new bytes
-BreaksOff Memory is_honest old new bytes = Gives is_honest old new []
-
--- a failed reply is told only where the count of them rose, and the count doesn't fall
-pub record HasReplyCause {T : Type 0} (before now : ℕ) (result : Result T Stop) : Type 0 where
-  pub later : before ≤ now
-  pub rose : IsErrOf result Reply → Rose before now
+-- a failed reply or call on a file is told only where its count rose
+pub record HasStopCause {T : Type 0} (disk_before disk_now reply_before reply_now : ℕ) (result : Result T Stop) : Type 0 where
+  pub disk_later : disk_before ≤ disk_now
+  pub reply_later : reply_before ≤ reply_now
+  pub disk_rose : IsErrOf result Disk → Rose disk_before disk_now
+  pub reply_rose : IsErrOf result Reply → Rose reply_before reply_now

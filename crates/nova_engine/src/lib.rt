@@ -2,9 +2,9 @@
 #![tactic(auto)]
 
 mod flow;
+mod kept;
 mod lines;
 mod load;
-mod program;
 mod reader;
 mod reply;
 mod rows;
@@ -14,6 +14,5 @@ mod stop;
 mod store;
 mod words;
 
-pub use program::nova;
 pub use reply::row_text;
 pub use status::Status;

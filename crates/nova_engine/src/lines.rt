@@ -1,9 +1,9 @@
 //! A session's bytes, cut into lines as they come.
 ghost use Rattle.std.specs.Prelude.{◌≡◌, ◌≢◌, ◌+◌, ◌<◌, ◌≤◌, ◌^◌, ◌++◌, [], ℕ, length, slice_index, IfOk, IfErr, MatchOption, MatchResult, true, false};
 ghost use Rattle.nova_value.specs.Text.{has_newline};
-ghost use Rattle.nova_engine.specs.Standing.{line_count};
+ghost use Rattle.nova_engine.specs.Standing.{InHost, line_count};
 ghost use Rattle.nova_engine.specs.Moves.{IsNextLine, MovesOn, BreaksOn, MovesBehind, BreaksBehind, Finishes, StopsFinish, Ends, StopsEnd, TakesLast};
-ghost use Rattle.nova_engine.specs.Steps.{HasReplyCause};
+ghost use Rattle.nova_engine.specs.Steps.{HasStopCause};
 
 use crate::reader::LineReader;
 use crate::session::{Session, close, take_line};
@@ -49,13 +49,15 @@ fn end_line<H: Host>(
     host: &mut H,
     bytes: &[u8],
 ) -> Result<LineReader, Stop>
-    requires room { reader.session.store.version + line_count reader.session.load < 2 ^ 63 }
+    requires room { reader.session.store.version + line_count reader.session.load < 2 ^ 63 + 2 ^ 62 }
+    requires in_host { InHost H.is_honest reader.session.store (H.history host.old) }
     requires line { has_newline bytes.now ≡ false }
+    ensures in_host { IfOk result (λ new. InHost H.is_honest new.session.store (H.history host.new)) }
     ensures room { IfOk result (λ new. new.session.store.version + line_count new.session.load ≤ reader.session.store.version + line_count reader.session.load + 1) }
     ensures moves { MatchResult result
         (λ new. MovesBehind H.is_honest reader new (H.history host.old) (H.history host.new) bytes.now)
         (λ stop. BreaksBehind stop H.is_honest reader (H.history host.old) (H.history host.new) bytes.now) }
-    ensures cause { HasReplyCause (H.reply_faults host.old) (H.reply_faults host.new) result }
+    ensures cause { HasStopCause (H.disk_faults host.old) (H.disk_faults host.new) (H.reply_faults host.old) (H.reply_faults host.new) result }
 {
     let LineReader { session, mut carry } = reader;
     if holds_nothing(&carry) {
@@ -75,12 +77,14 @@ pub fn take_piece<H: Host>(
     host: &mut H,
     bytes: &[u8],
 ) -> Result<LineReader, Stop>
-    requires room { reader.session.store.version + line_count reader.session.load + length bytes.now < 2 ^ 63 }
+    requires room { reader.session.store.version + line_count reader.session.load + length bytes.now < 2 ^ 63 + 2 ^ 62 }
+    requires in_host { InHost H.is_honest reader.session.store (H.history host.old) }
+    ensures in_host { IfOk result (λ new. InHost H.is_honest new.session.store (H.history host.new)) }
     ensures room { IfOk result (λ new. new.session.store.version + line_count new.session.load ≤ reader.session.store.version + line_count reader.session.load + length bytes.now) }
     ensures moves { MatchResult result
         (λ new. MovesOn H.is_honest reader new (H.history host.old) (H.history host.new) bytes.now)
         (λ stop. BreaksOn stop H.is_honest reader (H.history host.old) (H.history host.new) bytes.now) }
-    ensures cause { HasReplyCause (H.reply_faults host.old) (H.reply_faults host.new) result }
+    ensures cause { HasStopCause (H.disk_faults host.old) (H.disk_faults host.new) (H.reply_faults host.old) (H.reply_faults host.new) result }
 {
     let mut reader = reader;
     let mut rest = bytes;
@@ -105,12 +109,14 @@ fn carry_on(reader: LineReader, bytes: &[u8]) -> Result<LineReader, Stop>
 
 /// Takes a last line that no newline ends.
 fn take_last_line<H: Host>(reader: LineReader, alloc: Global, host: &mut H) -> Result<Session, Stop>
-    requires { reader.session.store.version + line_count reader.session.load < 2 ^ 63 }
+    requires room { reader.session.store.version + line_count reader.session.load < 2 ^ 63 + 2 ^ 62 }
+    requires in_host { InHost H.is_honest reader.session.store (H.history host.old) }
+    ensures in_host { IfOk result (λ new. InHost H.is_honest new.store (H.history host.new)) }
     ensures room { IfOk result (λ new. new.store.version ≤ reader.session.store.version + line_count reader.session.load + 1) }
     ensures last { MatchResult result
         (λ new. TakesLast H.is_honest reader new (H.history host.old) (H.history host.new))
         (λ stop. StopsFinish stop H.is_honest reader (H.history host.old) (H.history host.new)) }
-    ensures cause { HasReplyCause (H.reply_faults host.old) (H.reply_faults host.new) result }
+    ensures cause { HasStopCause (H.disk_faults host.old) (H.disk_faults host.new) (H.reply_faults host.old) (H.reply_faults host.new) result }
 {
     let LineReader { session, carry } = reader;
     if holds_nothing(&carry) {
@@ -121,11 +127,12 @@ fn take_last_line<H: Host>(reader: LineReader, alloc: Global, host: &mut H) -> R
 
 /// Takes a load that the input cut off.
 fn end_session<H: Host>(session: Session, alloc: Global, host: &mut H) -> Result<(), Stop>
-    requires { session.store.version < 2 ^ 63 }
+    requires room { session.store.version < 2 ^ 63 + 2 ^ 62 }
+    requires in_host { InHost H.is_honest session.store (H.history host.old) }
     ensures end { MatchResult result
         (λ _. Ends H.is_honest session (H.history host.old) (H.history host.new))
         (λ stop. StopsEnd stop H.is_honest session (H.history host.old) (H.history host.new)) }
-    ensures cause { HasReplyCause (H.reply_faults host.old) (H.reply_faults host.new) result }
+    ensures cause { HasStopCause (H.disk_faults host.old) (H.disk_faults host.new) (H.reply_faults host.old) (H.reply_faults host.new) result }
 {
     let Session { store, load } = session;
     if let Some(pending) = load {
@@ -136,11 +143,12 @@ fn end_session<H: Host>(session: Session, alloc: Global, host: &mut H) -> Result
 
 /// Takes what is left where the input ends.
 pub fn finish<H: Host>(reader: LineReader, alloc: Global, host: &mut H) -> Result<(), Stop>
-    requires { reader.session.store.version + line_count reader.session.load + 1 < 2 ^ 63 }
+    requires room { reader.session.store.version + line_count reader.session.load + 1 < 2 ^ 63 + 2 ^ 62 }
+    requires in_host { InHost H.is_honest reader.session.store (H.history host.old) }
     ensures finish { MatchResult result
         (λ _. Finishes H.is_honest reader (H.history host.old) (H.history host.new))
         (λ stop. StopsFinish stop H.is_honest reader (H.history host.old) (H.history host.new)) }
-    ensures cause { HasReplyCause (H.reply_faults host.old) (H.reply_faults host.new) result }
+    ensures cause { HasStopCause (H.disk_faults host.old) (H.disk_faults host.new) (H.reply_faults host.old) (H.reply_faults host.new) result }
 {
     let session = take_last_line(reader, alloc, host)?;
     end_session(session, alloc, host)

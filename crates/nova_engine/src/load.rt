@@ -1,9 +1,9 @@
 //! A load that is being read.
-ghost use Rattle.std.specs.Prelude.{◌≡◌, ◌≢◌, ◌+◌, ◌≤◌, ◌<◌, ◌^◌, Some, IfOk, false};
+ghost use Rattle.std.specs.Prelude.{◌≡◌, ◌≢◌, ◌+◌, ◌++◌, ◌∷◌, [], ◌≤◌, ◌<◌, ◌^◌, Some, IfOk, false};
 ghost use Rattle.nova_value.specs.Text.{has_newline};
 ghost use Rattle.nova_value.specs.Entries.{FitsEntry};
 ghost use Rattle.nova_delta.specs.Seen.{with_entry};
-ghost use Rattle.nova_engine.specs.Standing.{Begins, HasRows, TakesLine, line_count};
+ghost use Rattle.nova_engine.specs.Standing.{BeginsLoad, HasRows, TakesLine, line_count};
 
 use crate::flow::schema_of_raw;
 use crate::rows::Rows;
@@ -24,7 +24,7 @@ pub enum Pending {
 
 /// A load without lines; whether its words are `load raw`.
 pub fn begun(alloc: Global, is_raw: bool) -> Result<Pending, AllocError>
-    ensures load { IfOk result (Begins is_raw) }
+    ensures load { IfOk result (BeginsLoad is_raw) }
     ensures lines { IfOk result (λ p. line_count (Some p) ≡ 0) }
 {
     if is_raw {
@@ -32,29 +32,37 @@ pub fn begun(alloc: Global, is_raw: bool) -> Result<Pending, AllocError>
         Ok(Pending::Rows(Rows {
             delta: Delta::empty(alloc, schema),
             lines: 0,
+            payload: Vec::new(alloc),
         }))
     } else {
         Ok(Pending::NotBuilt)
     }
 }
 
-/// The rows and one more.
-fn with_row(rows: Rows, entry: Entry) -> Result<Pending, AllocError>
-    requires room { rows.lines < 2 ^ 63 }
+/// The rows and one more, the entry of this line.
+fn with_row(rows: Rows, entry: Entry, line: &[u8]) -> Result<Pending, AllocError>
+    requires room { rows.lines < 2 ^ 63 + 2 ^ 62 }
     requires fits { FitsEntry rows.delta.schema entry }
-    ensures { IfOk result (λ new. HasRows new (with_entry rows.delta entry) (rows.lines + 1)) }
+    ensures { IfOk result (λ new. HasRows new (with_entry rows.delta entry) (rows.lines + 1) (rows.payload.items ++ line.now ++ 10 ∷ [])) }
 {
-    let Rows { mut delta, lines } = rows;
+    let Rows {
+        mut delta,
+        lines,
+        mut payload,
+    } = rows;
     delta.set(entry)?;
+    payload.extend_from_slice(line)?;
+    payload.push(b'\n')?;
     Ok(Pending::Rows(Rows {
         delta,
         lines: lines + 1,
+        payload,
     }))
 }
 
 /// The load behind a line that was not read: it is no row, or there was no memory for it.
 fn behind_fault(fault: RowFault, lines: u64) -> Result<Pending, AllocError>
-    requires { lines < 2 ^ 63 }
+    requires { lines < 2 ^ 63 + 2 ^ 62 }
     ensures { IfOk result (λ new. (fault ≢ RowFault.NoMemory) × (new ≡ Pending.BadRow (lines + 1))) }
 {
     match fault {
@@ -65,7 +73,7 @@ fn behind_fault(fault: RowFault, lines: u64) -> Result<Pending, AllocError>
 
 /// The load behind one more line.
 pub fn with_line(alloc: Global, pending: Pending, line: &[u8]) -> Result<Pending, AllocError>
-    requires room { line_count (Some pending) < 2 ^ 63 }
+    requires room { line_count (Some pending) < 2 ^ 63 + 2 ^ 62 }
     requires line { has_newline line.now ≡ false }
     ensures load { IfOk result (λ new. TakesLine pending new line.now) }
     ensures lines { IfOk result (λ new. line_count (Some new) ≤ line_count (Some pending) + 1) }
@@ -74,7 +82,7 @@ pub fn with_line(alloc: Global, pending: Pending, line: &[u8]) -> Result<Pending
         Pending::NotBuilt => Ok(Pending::NotBuilt),
         Pending::BadRow(line) => Ok(Pending::BadRow(line)),
         Pending::Rows(rows) => match row_from_text(alloc, line, rows.delta.schema()) {
-            Ok(entry) => with_row(rows, entry),
+            Ok(entry) => with_row(rows, entry, line),
             Err(fault) => behind_fault(fault, rows.lines),
         },
     }

@@ -33,6 +33,7 @@ fn reply_bytes<H: Host>(host: &mut H, bytes: &[u8]) -> Result<(), Failed>
         (λ _. Gives H.is_honest (H.history host.old) (H.history host.new) bytes.now)
         (λ _. GivesInPart H.is_honest (H.history host.old) (H.history host.new) bytes.now) }
     ensures cause { HasCause (H.reply_faults host.old) (H.reply_faults host.new) result }
+    ensures disk_faults { H.disk_faults host.new ≡ H.disk_faults host.old }
 {
     host.reply(bytes)
 }
@@ -62,6 +63,7 @@ impl ReplyLine {
             (λ _. GivesInPart H.is_honest (H.history host.old) (H.history host.new) self.old) }
         ensures empty { OnOk result (self.new ≡ []) }
         ensures cause { HasCause (H.reply_faults host.old) (H.reply_faults host.new) result }
+        ensures disk_faults { H.disk_faults host.new ≡ H.disk_faults host.old }
     {
         reply_bytes(host, self.held.as_slice())?;
         self.held.clear();
@@ -74,6 +76,7 @@ impl ReplyLine {
             (λ _. Holds H.is_honest (H.history host.old) (H.history host.new) self.old self.new bytes.now)
             (λ _. GivesInPart H.is_honest (H.history host.old) (H.history host.new) (self.old ++ bytes.now)) }
         ensures cause { HasCause (H.reply_faults host.old) (H.reply_faults host.new) result }
+        ensures disk_faults { H.disk_faults host.new ≡ H.disk_faults host.old }
     {
         if self.hold(bytes) {
             return Ok(());
@@ -92,6 +95,7 @@ fn push_value<H: Host>(line: &mut ReplyLine, host: &mut H, value: &Value) -> Res
         (λ _. Holds H.is_honest (H.history host.old) (H.history host.new) line.old line.new (value_text value.now))
         (λ _. GivesInPart H.is_honest (H.history host.old) (H.history host.new) (line.old ++ value_text value.now)) }
     ensures cause { HasCause (H.reply_faults host.old) (H.reply_faults host.new) result }
+    ensures disk_faults { H.disk_faults host.new ≡ H.disk_faults host.old }
 {
     match value {
         Value::Long(n) => {
@@ -108,6 +112,7 @@ fn push_tail<H: Host>(line: &mut ReplyLine, host: &mut H, values: &[Value]) -> R
         (λ _. Holds H.is_honest (H.history host.old) (H.history host.new) line.old line.new (tail_text values.now))
         (λ _. GivesInPart H.is_honest (H.history host.old) (H.history host.new) (line.old ++ tail_text values.now)) }
     ensures cause { HasCause (H.reply_faults host.old) (H.reply_faults host.new) result }
+    ensures disk_faults { H.disk_faults host.new ≡ H.disk_faults host.old }
 {
     for value in values {
         line.push(host, b"\t")?;
@@ -122,6 +127,7 @@ fn push_fields<H: Host>(line: &mut ReplyLine, host: &mut H, values: &[Value]) ->
         (λ _. Holds H.is_honest (H.history host.old) (H.history host.new) line.old line.new (joined values.now))
         (λ _. GivesInPart H.is_honest (H.history host.old) (H.history host.new) (line.old ++ joined values.now)) }
     ensures cause { HasCause (H.reply_faults host.old) (H.reply_faults host.new) result }
+    ensures disk_faults { H.disk_faults host.new ≡ H.disk_faults host.old }
 {
     let Some((first, rest)) = values.split_first() else {
         return Ok(());
@@ -136,6 +142,7 @@ pub fn row_text<H: Host>(host: &mut H, row: &Row) -> Result<(), Failed>
         (λ _. Gives H.is_honest (H.history host.old) (H.history host.new) (row_line row.now))
         (λ _. GivesInPart H.is_honest (H.history host.old) (H.history host.new) (row_line row.now)) }
     ensures cause { HasCause (H.reply_faults host.old) (H.reply_faults host.new) result }
+    ensures disk_faults { H.disk_faults host.new ≡ H.disk_faults host.old }
 {
     let mut line = ReplyLine::new();
     line.push(host, b"+")?;
@@ -150,6 +157,7 @@ fn reply_parts<H: Host>(host: &mut H, parts: &[&[u8]]) -> Result<(), Failed>
         (λ _. Gives H.is_honest (H.history host.old) (H.history host.new) (in_one (map (λ p. p.now) parts.now)))
         (λ _. GivesInPart H.is_honest (H.history host.old) (H.history host.new) (in_one (map (λ p. p.now) parts.now))) }
     ensures cause { HasCause (H.reply_faults host.old) (H.reply_faults host.new) result }
+    ensures disk_faults { H.disk_faults host.new ≡ H.disk_faults host.old }
 {
     let mut line = ReplyLine::new();
     for part in parts {
@@ -164,6 +172,7 @@ pub fn loaded<H: Host>(host: &mut H, version: u64) -> Result<(), Failed>
         (λ _. Gives H.is_honest (H.history host.old) (H.history host.new) (loaded_line (codes "raw") version))
         (λ _. GivesInPart H.is_honest (H.history host.old) (H.history host.new) (loaded_line (codes "raw") version)) }
     ensures cause { HasCause (H.reply_faults host.old) (H.reply_faults host.new) result }
+    ensures disk_faults { H.disk_faults host.new ≡ H.disk_faults host.old }
 {
     let mut digits = Buffer::new();
     reply_parts(
@@ -178,6 +187,7 @@ pub fn shown<H: Host>(host: &mut H, version: u64, count: usize) -> Result<(), Fa
         (λ _. Gives H.is_honest (H.history host.old) (H.history host.new) (shown_line (codes "raw") version count))
         (λ _. GivesInPart H.is_honest (H.history host.old) (H.history host.new) (shown_line (codes "raw") version count)) }
     ensures cause { HasCause (H.reply_faults host.old) (H.reply_faults host.new) result }
+    ensures disk_faults { H.disk_faults host.new ≡ H.disk_faults host.old }
 {
     let mut digits = Buffer::new();
     let mut count_digits = Buffer::new();
@@ -199,6 +209,7 @@ pub fn not_built<H: Host>(host: &mut H) -> Result<(), Failed>
         (λ _. Gives H.is_honest (H.history host.old) (H.history host.new) (line_end (codes "no 90 not-built")))
         (λ _. GivesInPart H.is_honest (H.history host.old) (H.history host.new) (line_end (codes "no 90 not-built"))) }
     ensures cause { HasCause (H.reply_faults host.old) (H.reply_faults host.new) result }
+    ensures disk_faults { H.disk_faults host.new ≡ H.disk_faults host.old }
 {
     reply_bytes(host, b"no 90 not-built\n")
 }
@@ -209,6 +220,7 @@ pub fn bad_row<H: Host>(host: &mut H, line: u64) -> Result<(), Failed>
         (λ _. Gives H.is_honest (H.history host.old) (H.history host.new) (line_end (codes "no 6 bad-row " ++ decimal line)))
         (λ _. GivesInPart H.is_honest (H.history host.old) (H.history host.new) (line_end (codes "no 6 bad-row " ++ decimal line))) }
     ensures cause { HasCause (H.reply_faults host.old) (H.reply_faults host.new) result }
+    ensures disk_faults { H.disk_faults host.new ≡ H.disk_faults host.old }
 {
     let mut digits = Buffer::new();
     reply_parts(
@@ -223,6 +235,7 @@ pub fn unfinished_load<H: Host>(host: &mut H) -> Result<(), Failed>
         (λ _. Gives H.is_honest (H.history host.old) (H.history host.new) (line_end (codes "no 7 unfinished-load")))
         (λ _. GivesInPart H.is_honest (H.history host.old) (H.history host.new) (line_end (codes "no 7 unfinished-load"))) }
     ensures cause { HasCause (H.reply_faults host.old) (H.reply_faults host.new) result }
+    ensures disk_faults { H.disk_faults host.new ≡ H.disk_faults host.old }
 {
     reply_bytes(host, b"no 7 unfinished-load\n")
 }

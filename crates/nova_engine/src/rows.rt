@@ -4,10 +4,12 @@ ghost use Rattle.nova_engine.specs.Flow.{raw_schema};
 
 use nova_delta::Delta;
 
-/// The delta of a load's lines so far, all of them rows, and how many they are.
+/// A load's lines so far, all of them rows: the delta that they make, how many they are, and their
+/// bytes, each line with its newline, which the journal keeps.
 #[derive(Drop)]
 pub struct Rows {
     pub delta: Delta,
     pub lines: u64,
+    pub payload: Vec<u8>,
     pub ghost of_raw: { delta.schema ≡ raw_schema },
 }

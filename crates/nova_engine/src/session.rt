@@ -3,13 +3,14 @@ ghost use Rattle.std.specs.Prelude.{◌≡◌, ◌+◌, ◌<◌, ◌≤◌, ◌^
 ghost use Rattle.nova_value.specs.Text.{has_newline};
 ghost use Rattle.nova_machine.specs.Lines.{words_of};
 ghost use Rattle.nova_machine.specs.Commands.{single};
-ghost use Rattle.nova_engine.specs.Standing.{MovesLine, BreaksLine, ClosesLoad, BreaksLoad, line_count};
-ghost use Rattle.nova_engine.specs.Steps.{HasReplyCause};
+ghost use Rattle.nova_engine.specs.Standing.{MovesLine, BreaksLine, ClosesLoad, BreaksLoad, InHost, line_count};
+ghost use Rattle.nova_engine.specs.Steps.{HasStopCause};
 
 use crate::load::{Pending, begun, with_line};
 use crate::reply::{bad_row, not_built, unfinished_load};
 use crate::stop::Stop;
-use crate::store::{Store, load, show};
+use crate::kept::Store;
+use crate::store::{load, show};
 use crate::words::{CommandLine, command_line, ends_load};
 use nova_outside::Host;
 use std::alloc::Global;
@@ -29,12 +30,14 @@ pub fn close<H: Host>(
     pending: Pending,
     is_ended: bool,
 ) -> Result<Store, Stop>
-    requires room { store.version < 2 ^ 63 }
+    requires room { store.version < 2 ^ 63 + 2 ^ 62 }
+    requires in_host { InHost H.is_honest store (H.history host.old) }
     ensures version { IfOk result (λ new. new.version ≤ store.version + 1) }
+    ensures in_host { IfOk result (λ new. InHost H.is_honest new (H.history host.new)) }
     ensures load { MatchResult result
         (λ new. ClosesLoad H.is_honest store pending is_ended new (H.history host.old) (H.history host.new))
         (λ stop. BreaksLoad stop H.is_honest store pending is_ended (H.history host.old) (H.history host.new)) }
-    ensures cause { HasReplyCause (H.reply_faults host.old) (H.reply_faults host.new) result }
+    ensures cause { HasStopCause (H.disk_faults host.old) (H.disk_faults host.new) (H.reply_faults host.old) (H.reply_faults host.new) result }
 {
     match pending {
         Pending::NotBuilt => {
@@ -47,7 +50,7 @@ pub fn close<H: Host>(
         }
         Pending::Rows(rows) => {
             if is_ended {
-                load(store, alloc, host, &rows.delta)
+                load(store, alloc, host, &rows)
             } else {
                 unfinished_load(host)?;
                 Ok(store)
@@ -58,12 +61,14 @@ pub fn close<H: Host>(
 
 /// Takes a line that no load takes.
 fn command<H: Host>(store: Store, alloc: Global, host: &mut H, line: &[u8]) -> Result<Session, Stop>
+    requires in_host { InHost H.is_honest store (H.history host.old) }
+    ensures in_host { IfOk result (λ new. InHost H.is_honest new.store (H.history host.new)) }
     ensures version { IfOk result (λ new. new.store.version ≡ store.version) }
     ensures lines { IfOk result (λ new. line_count new.load ≡ 0) }
     ensures line { MatchResult result
         (λ new. MovesLine H.is_honest (record { store = store; load = None }) new (H.history host.old) (H.history host.new) line.now)
         (λ stop. BreaksLine stop H.is_honest (record { store = store; load = None }) (H.history host.old) (H.history host.new) line.now) }
-    ensures cause { HasReplyCause (H.reply_faults host.old) (H.reply_faults host.new) result }
+    ensures cause { HasStopCause (H.disk_faults host.old) (H.disk_faults host.new) (H.reply_faults host.old) (H.reply_faults host.new) result }
 {
     match command_line(line) {
         CommandLine::Blank => Ok(Session { store, load: None }),
@@ -92,13 +97,15 @@ pub fn take_line<H: Host>(
     host: &mut H,
     line: &[u8],
 ) -> Result<Session, Stop>
-    requires room { session.store.version + line_count session.load < 2 ^ 63 }
+    requires room { session.store.version + line_count session.load < 2 ^ 63 + 2 ^ 62 }
+    requires in_host { InHost H.is_honest session.store (H.history host.old) }
     requires line { has_newline line.now ≡ false }
+    ensures in_host { IfOk result (λ new. InHost H.is_honest new.store (H.history host.new)) }
     ensures room { IfOk result (λ new. new.store.version + line_count new.load ≤ session.store.version + line_count session.load + 1) }
     ensures line { MatchResult result
         (λ new. MovesLine H.is_honest session new (H.history host.old) (H.history host.new) line.now)
         (λ stop. BreaksLine stop H.is_honest session (H.history host.old) (H.history host.new) line.now) }
-    ensures cause { HasReplyCause (H.reply_faults host.old) (H.reply_faults host.new) result }
+    ensures cause { HasStopCause (H.disk_faults host.old) (H.disk_faults host.new) (H.reply_faults host.old) (H.reply_faults host.new) result }
 {
     let Session { store, load } = session;
     match load {

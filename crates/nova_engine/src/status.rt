@@ -12,8 +12,17 @@ pub enum Status {
     /// The words are none of the program's forms.
     Usage,
     ReadFault,
+    DiskFault,
     ReplyFault,
     NoMemory,
+    /// No store is there.
+    NoStore,
+    /// A store is there already.
+    StoreThere,
+    /// A file of the store is damaged; the line that names it and the place was replied.
+    Damaged,
+    /// The journal has no room for a load.
+    Full,
     InputTooLong,
 }
 
@@ -26,8 +35,13 @@ impl Status {
             Status::Done => 0,
             Status::Usage => 1,
             Status::ReadFault => 2,
+            Status::DiskFault => 3,
             Status::ReplyFault => 4,
             Status::NoMemory => 5,
+            Status::NoStore => 6,
+            Status::StoreThere => 7,
+            Status::Damaged => 9,
+            Status::Full => 10,
             Status::InputTooLong => 11,
         }
     }
@@ -38,7 +52,9 @@ pub fn status_of(stop: Stop) -> Status
     ensures { result ≡ stop_status stop }
 {
     match stop {
+        Stop::Disk => Status::DiskFault,
         Stop::Reply => Status::ReplyFault,
+        Stop::Full => Status::Full,
         Stop::Memory => Status::NoMemory,
     }
 }

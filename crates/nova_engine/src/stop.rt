@@ -8,8 +8,12 @@ use std::alloc::{AllocError, AllocFailed};
 /// Why a session ended before its input did.
 #[derive(Clone, Copy, Debug, PartialEq, Eq)]
 pub enum Stop {
+    /// A call on a file failed.
+    Disk,
     /// A reply failed.
     Reply,
+    /// A load would take the journal past its bound.
+    Full,
     Memory,
 }
 

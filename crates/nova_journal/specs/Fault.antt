@@ -32,10 +32,11 @@ abbrev pub IsDamaged : ℕ → Option (List ℕ) → Type 0
 IsDamaged at None = at ≡ 0
 IsDamaged at (Some file) = DamagedAt at file
 
--- what these files have to do with it, where the host tells them
+-- what these files have to do with it, where the host tells them; memory is taken only behind a mark
 abbrev pub ReopenTold : Files → LogFault → Type 0
 ReopenTold files NoStore = IsMark files None
 ReopenTold files (Damaged file at) = (x : ℕ) × IsMark files (Some x) × (file ≡ 4 * x) × IsDamaged at (files file)
+ReopenTold files NoMemory = (x : ℕ) × IsMark files (Some x)
 ReopenTold files _ = Unit {0}
 
 -- a mark wasn't made

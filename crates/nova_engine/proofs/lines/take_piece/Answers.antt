@@ -9,6 +9,8 @@ loop-line-init g c = record {
   all = refl;
   moves = moves_nothing _ c.args.reader _;
   room = omega arith;
+  in_host = c.requires.in_host;
+  disk_later = omega arith;
   later = omega arith;
 }
 
@@ -32,6 +34,8 @@ loop-line-preserved g c =
       all = next_bytes c.args.bytes.now done c.loop-line.rest.now line more c.loop-line.invariant.all c.in-Some.ensures.is;
       moves = moves_both _ c.args.reader c.loop-line.reader c.in_ok-reader.reader _ _ _ done (line ++ 10 ∷ []) c.loop-line.invariant.moves c.in_ok-reader.ensures.moves;
       room = omega (arith, c.in_ok-reader.ensures.room, c.loop-line.invariant.room, length-append done (line ++ 10 ∷ []), length-append line (10 ∷ []));
+      in_host = c.in_ok-reader.ensures.in_host;
+      disk_later = omega arith;
       later = omega arith;
     }
 

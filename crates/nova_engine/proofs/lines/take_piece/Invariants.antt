@@ -1,6 +1,6 @@
 use Rattle.std.proofs.Common.{◌≡◌, ◌+◌, ◌++◌, ◌≤◌, List, ℕ, length}
 use Rattle.nova_engine.specs.Moves.{MovesOn}
-use Rattle.nova_engine.specs.Standing.{line_count}
+use Rattle.nova_engine.specs.Standing.{InHost, line_count}
 use Rattle.nova_engine.proofs.lines.take_piece.Given as goal
 
 abbrev pub invariant-loop-line : goal.invariant-loop-line
@@ -9,6 +9,8 @@ invariant-loop-line g l = record {
   all : l.bytes ≡ done ++ l.rest;
   moves : MovesOn g.H.Host.is_honest l.fn.reader l.reader (g.H.Host.history l.fn.host) (g.H.Host.history l.host) done;
   room : l.reader.session.store.version + line_count l.reader.session.load ≤ l.fn.reader.session.store.version + line_count l.fn.reader.session.load + length done;
+  in_host : InHost g.H.Host.is_honest l.reader.session.store (g.H.Host.history l.host);
+  disk_later : g.H.Host.disk_faults l.fn.host ≤ g.H.Host.disk_faults l.host;
   later : g.H.Host.reply_faults l.fn.host ≤ g.H.Host.reply_faults l.host;
 }
 

@@ -1,4 +1,4 @@
-use Rattle.std.proofs.Common.{◌<◌, length, arith}
+use Rattle.std.proofs.Common.{◌∙◌, ◌<◌, length, arith}
 use Rattle.std.proofs.lemmas.Result.{err_from_is_err_and}
 use Rattle.nova_engine.proofs.Giving.{holds_both, part_held, part_between}
 use Rattle.nova_engine.proofs.Fields.{tail_text-more, tail_text-tab, tail_text-value}
@@ -24,5 +24,6 @@ loop-value-preserved g c =
     record {
       holds = rw (tail_text-more c.args.values.now c.loop-value.value-index c.value-item.result below c.value-item.is)
           (holds_both _ _ _ _ _ _ _ _ _ c.loop-value.invariant.holds (holds_both _ _ _ _ _ _ _ _ _ c.in_ok-push.ensures.holds c.in_ok-push_value.ensures.holds));
-      later = omega arith;
+      disk = c.push_value.ensures.disk_faults ∙ c.push.ensures.disk_faults ∙ c.loop-value.invariant.disk;
+  later = omega arith;
     }

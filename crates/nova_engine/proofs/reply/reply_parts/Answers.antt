@@ -12,6 +12,7 @@ loop-part-init g c = record {
   given = [];
   holds = holds_nothing_given _ _ [] _ [] c.new-line.ensures;
   rest = refl;
+  disk = refl;
   later = omega arith;
 }
 
@@ -39,7 +40,8 @@ loop-part-preserved g c =
       given = given ++ part;
       holds = holds_both _ _ _ _ _ _ _ _ _ c.loop-part.invariant.holds c.in_ok-push.ensures.holds;
       rest = append_assoc given part (in_one (map (λ p. p.now) (drop (i + 1) parts))) ∙ ap (λ t. given ++ t) (sym next) ∙ c.loop-part.invariant.rest;
-      later = omega arith;
+      disk = c.push.ensures.disk_faults ∙ c.loop-part.invariant.disk;
+  later = omega arith;
     }
 
 pub returns-clause-gives : goal.returns-clause-gives

@@ -1,4 +1,4 @@
-use Rattle.std.proofs.Common.{◌++◌, [], ap, sym, ◌∙◌, append_assoc, arith}
+use Rattle.std.proofs.Common.{refl, ◌++◌, [], ap, sym, ◌∙◌, append_assoc, arith}
 use Rattle.std.proofs.lemmas.List.{append-nil}
 use Rattle.std.proofs.lemmas.Map.Iter.{rest_more}
 use Rattle.std.proofs.lemmas.Result.{err_from_is_err_and}
@@ -14,6 +14,7 @@ loop-row-init g c = record {
   given = [];
   gives = λ honest. replied_nothing _;
   rest = ap (flat_map row_line) (c.into_iter-row-iterator.ensures.into_iter_gives ∙ c.rows-row-items.ensures.rows);
+  disk = refl;
   later = omega arith;
 }
 
@@ -34,7 +35,8 @@ loop-row-preserved g c =
       gives = gives_both _ _ _ _ given _ c.loop-row.invariant.gives c.in_ok-row_text.ensures.gives;
       rest = append_assoc given (row_line c.in-Some.row.now) (flat_map row_line c.next.new.self)
           ∙ ap (λ rows. given ++ flat_map row_line rows) (sym next) ∙ c.loop-row.invariant.rest;
-      later = omega arith;
+      disk = c.row_text.ensures.disk_faults ∙ c.loop-row.invariant.disk;
+  later = omega arith;
     }
 
 pub returns-clause-gives : goal.returns-clause-gives

@@ -10,5 +10,6 @@ invariant-loop-row g l = record {
   given : List ℕ;
   gives : Gives g.H.Host.is_honest (g.H.Host.history l.fn.host) (g.H.Host.history l.host) given;
   rest : given ++ flat_map row_line l.row-iterator ≡ row_lines l.table;
+  disk : g.H.Host.disk_faults l.host ≡ g.H.Host.disk_faults l.fn.host;
   later : g.H.Host.reply_faults l.fn.host ≤ g.H.Host.reply_faults l.host;
 }

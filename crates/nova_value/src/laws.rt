@@ -7,6 +7,11 @@ pub fn lines_are_read_back()
     ensures removals { law.RemovalsReadBack }
 {}
 
+/// `row_from_text` reads exactly the lines of the forms, each as what it spells.
+pub fn lines_are_forms()
+    ensures { law.LinesAreForms }
+{}
+
 /// Values and keys are in total order, and only equal ones tie.
 pub fn order_is_exact()
     ensures { law.IsExactOrder }

@@ -60,6 +60,15 @@ fn delta(alloc: Global, entries: &[(i64, Option<i64>)]) -> Result<Delta, AllocEr
     Ok(delta)
 }
 
+/// Three rows, not in the order of their keys.
+fn three_rows(alloc: Global) -> Result<Table, AllocError> {
+    let first = row(alloc, 3, 30)?;
+    let second = row(alloc, -1, 10)?;
+    let third = row(alloc, 2, 20)?;
+    let rows = vec![in alloc; first, second, third]?;
+    Table::from_rows(alloc, schema(alloc)?, rows)
+}
+
 fn numbers(alloc: Global, table: &Table) -> Result<Vec<(i64, i64)>, AllocError> {
     let mut all = Vec::new(alloc);
     for row in table.rows() {
@@ -89,33 +98,78 @@ fn listed(alloc: Global, delta: &Delta) -> Result<Vec<(i64, Option<i64>)>, Alloc
     Ok(all)
 }
 
-#[test]
-fn merges_and_chains(rt: HostRuntime) -> Result<(), Fail> {
-    let alloc = rt.alloc();
-    let first = delta(alloc, &[(2, Some(20)), (1, Some(10))])?;
-    let second = delta(alloc, &[(1, None), (3, Some(30))])?;
-    let table = merge(alloc, Table::empty(alloc, schema(alloc)?), &first)?;
-    assert_eq!(rt; numbers(alloc, &table)?.as_slice(), [(1, 10), (2, 20)].as_slice());
+/// The rows of a table made by two deltas, one after the other.
+fn merged(
+    alloc: Global,
+    first: &[(i64, Option<i64>)],
+    second: &[(i64, Option<i64>)],
+) -> Result<Vec<(i64, i64)>, AllocError> {
+    let first = delta(alloc, first)?;
+    let second = delta(alloc, second)?;
+    let empty = Table::empty(alloc, schema(alloc)?);
+    let table = merge(alloc, empty, &first)?;
     let table = merge(alloc, table, &second)?;
-    assert_eq!(rt; numbers(alloc, &table)?.as_slice(), [(2, 20), (3, 30)].as_slice());
+    numbers(alloc, &table)
+}
+
+/// The entries of two deltas, as one.
+fn chained(
+    alloc: Global,
+    first: &[(i64, Option<i64>)],
+    second: &[(i64, Option<i64>)],
+) -> Result<Vec<(i64, Option<i64>)>, AllocError> {
+    let first = delta(alloc, first)?;
+    let second = delta(alloc, second)?;
     let both = chain(alloc, first, &second)?;
-    assert_eq!(rt; listed(alloc, &both)?.as_slice(), [(1, None), (2, Some(20)), (3, Some(30))].as_slice());
-    let third = chain(alloc, both, &delta(alloc, &[(1, Some(11))])?)?;
-    assert_eq!(rt; listed(alloc, &third)?.as_slice(), [(1, Some(11)), (2, Some(20)), (3, Some(30))].as_slice());
-    let puts = without_removals(delta(alloc, &[(1, None), (2, Some(20)), (2, Some(21))])?);
-    assert_eq!(rt; listed(alloc, &puts)?.as_slice(), [(2, Some(21))].as_slice());
+    listed(alloc, &both)
+}
+
+#[test]
+fn merges(rt: HostRuntime) -> Result<(), Fail> {
+    let alloc = rt.alloc();
+    let rows = merged(
+        alloc,
+        &[(2, Some(20)), (1, Some(10))],
+        &[(1, None), (3, Some(30))],
+    )?;
+    assert_eq!(rt; rows.as_slice(), [(2, 20), (3, 30)].as_slice());
+    Ok(())
+}
+
+#[test]
+fn chains(rt: HostRuntime) -> Result<(), Fail> {
+    let alloc = rt.alloc();
+    let entries = chained(alloc, &[(2, None), (1, None)], &[(1, Some(11))])?;
+    assert_eq!(rt; entries.as_slice(), [(1, Some(11)), (2, None)].as_slice());
+    Ok(())
+}
+
+#[test]
+fn puts_stay(rt: HostRuntime) -> Result<(), Fail> {
+    let alloc = rt.alloc();
+    let delta = delta(alloc, &[(1, None), (2, Some(20)), (2, Some(21))])?;
+    let entries = listed(alloc, &without_removals(delta))?;
+    assert_eq!(rt; entries.as_slice(), [(2, Some(21))].as_slice());
     Ok(())
 }
 
 #[test]
 fn rows_by_key(rt: HostRuntime) -> Result<(), Fail> {
     let alloc = rt.alloc();
-    let rows = vec![in alloc; row(alloc, 3, 30)?, row(alloc, -1, 10)?, row(alloc, 2, 20)?]?;
-    let table = Table::from_rows(alloc, schema(alloc)?, rows)?;
-    assert_eq!(rt; numbers(alloc, &table)?.as_slice(), [(-1, 10), (2, 20), (3, 30)].as_slice());
-    assert_eq!(rt; (table.len(), table.is_empty()), (3, false));
+    let table = three_rows(alloc)?;
+    assert_eq!(rt; table.len(), 3);
+    assert!(rt; !table.is_empty());
+    let rows = numbers(alloc, &table)?;
+    assert_eq!(rt; rows.as_slice(), [(-1, 10), (2, 20), (3, 30)].as_slice());
+    assert!(rt; table.get(&key(alloc, 1)?).is_none());
+    Ok(())
+}
+
+#[test]
+fn row_of_a_key(rt: HostRuntime) -> Result<(), Fail> {
+    let alloc = rt.alloc();
+    let table = three_rows(alloc)?;
     let found = table.get(&key(alloc, 2)?).ok_or("a row")?;
     assert!(rt; found.values() == [Value::Long(2), Value::Long(20)].as_slice());
-    assert!(rt; table.get(&key(alloc, 1)?).is_none());
     Ok(())
 }

@@ -1,5 +1,5 @@
 -- What the laws of this crate say. Each statement is the contract of a function of `laws`.
-use Rattle.std.specs.Prelude.{◌≡◌, ◌↔◌, ℕ, false, List, [], ◌∷◌, ◌++◌, Ok}
+use Rattle.std.specs.Prelude.{◌≡◌, ◌↔◌, ℕ, ℤ, false, List, [], ◌∷◌, ◌++◌, Ok}
 use Rattle.std.specs.Cmp.{IsTotalOrder}
 use Rattle.std.specs.FinMap.{IsAntisymmetric}
 use Rattle.nova_value.specs.declared.value.Value.{Value}
@@ -11,6 +11,7 @@ use Rattle.nova_value.specs.Rows.{Shape, IsShape, FitsRow, FitsKey, key_at}
 use Rattle.nova_value.specs.Line.{row_of_text}
 use Rattle.nova_value.specs.RowLine.{row_line, removal_line}
 use Rattle.nova_value.specs.Forms.{Spells}
+use Rattle.nova_value.specs.Wrapped.{wrapped, IsWrapped}
 
 -- these bytes are one line, and without its newline it spells the entry
 pub record IsLineOf (s : Shape) (line : List ℕ) (e : Entry) : Type 0 where
@@ -41,3 +42,7 @@ KeysFit = (s : Shape) (row : List Value) → IsShape s → FitsRow s row → Fit
 -- the lines that spell an entry are exactly those of the forms
 abbrev pub LinesAreForms : Type 0
 LinesAreForms = (s : Shape) → IsShape s → (line : List ℕ) (e : Entry) → has_newline line ≡ false → (row_of_text line s ≡ Ok e) ↔ Spells s line e
+
+-- the wrapped number is the one number of 64 bits that is congruent to x modulo 2^64
+abbrev pub WrapsToOne : Type 0
+WrapsToOne = (x n : ℤ) → IsWrapped x n ↔ (n ≡ wrapped x)

@@ -21,3 +21,8 @@ pub fn order_is_exact()
 pub fn keys_fit()
     ensures { law.KeysFit }
 {}
+
+/// Numbers wrap in two's complement.
+pub fn wraps_to_one()
+    ensures { law.WrapsToOne }
+{}

@@ -1,5 +1,5 @@
 -- What the laws of this crate say. Each statement is the contract of a function of `laws`.
-use Rattle.std.specs.Prelude.{◌≡◌, ◌↔◌, ℕ, ℤ, false, List, [], ◌∷◌, ◌++◌, Ok}
+use Rattle.std.specs.Prelude.{◌≡◌, ◌↔◌, ℕ, ℤ, true, false, List, [], ◌∷◌, ◌++◌, Ok}
 use Rattle.std.specs.Cmp.{IsTotalOrder}
 use Rattle.std.specs.FinMap.{IsAntisymmetric}
 use Rattle.nova_value.specs.declared.value.Value.{Value}
@@ -7,7 +7,7 @@ use Rattle.nova_value.specs.declared.schema.Entry.{Entry}
 use Rattle.nova_value.specs.declared.schema.Entry.TheVariants.{Put, Removal}
 use Rattle.nova_value.specs.Text.{has_newline}
 use Rattle.nova_value.specs.Order.{value_cmp, key_cmp}
-use Rattle.nova_value.specs.Rows.{Shape, IsShape, FitsRow, FitsKey, key_at}
+use Rattle.nova_value.specs.Rows.{Shape, IsShape, is_shape, FitsRow, FitsKey, key_at}
 use Rattle.nova_value.specs.Line.{row_of_text}
 use Rattle.nova_value.specs.RowLine.{row_line, removal_line}
 use Rattle.nova_value.specs.Forms.{Spells}
@@ -46,3 +46,7 @@ LinesAreForms = (s : Shape) → IsShape s → (line : List ℕ) (e : Entry) → 
 -- the wrapped number is the one number of 64 bits that is congruent to x modulo 2^64
 abbrev pub WrapsToOne : Type 0
 WrapsToOne = (x n : ℤ) → IsWrapped x n ↔ (n ≡ wrapped x)
+
+-- the test of a schema passes exactly what is one
+abbrev pub SchemasAreTested : Type 0
+SchemasAreTested = (s : Shape) → (is_shape s ≡ true) ↔ IsShape s

@@ -26,3 +26,8 @@ pub fn keys_fit()
 pub fn wraps_to_one()
     ensures { law.WrapsToOne }
 {}
+
+/// What `Schema::new` asks is what each schema keeps.
+pub fn schemas_are_tested()
+    ensures { law.SchemasAreTested }
+{}

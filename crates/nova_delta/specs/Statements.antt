@@ -1,9 +1,11 @@
 -- What the laws of this crate say. Each statement is the contract of a function of `laws`.
 use Rattle.std.specs.Prelude.{◌≡◌, ◌↔◌, T, List, Some, fold, Contains}
+use Rattle.std.specs.List.{AllByRecursion}
 use Rattle.std.specs.FinMap as fin
 use Rattle.nova_value.specs.declared.value.Value.{Value}
 use Rattle.nova_value.specs.declared.schema.Entry.{Entry}
-use Rattle.nova_value.specs.Rows.{Shape, key_at}
+use Rattle.nova_value.specs.Rows.{Shape, FitsRow, key_at}
+use Rattle.nova_value.specs.Entries.{FitsEntry}
 use Rattle.nova_delta.specs.Merge.{RowMap, EntryMap, TableValue, DeltaValue, IsTable, IsDelta, after, later, put_only, merged, chained, puts, merge_of, chain_of}
 use Rattle.nova_delta.specs.Seen.{table_of, AreRows, with_entry}
 use Rattle.nova_delta.specs.Laws.{no_change}
@@ -50,6 +52,13 @@ EntriesRise = (d : DeltaValue) → IsDelta d → T (rises d.schema (entries_of d
 
 abbrev pub RowsRise : Type 0
 RowsRise = (t : TableValue) → IsTable t → T (rows_rise t.schema (rows_of t))
+
+-- each of them fits
+abbrev pub RowsFit : Type 0
+RowsFit = (t : TableValue) → IsTable t → AllByRecursion (FitsRow t.schema) (rows_of t)
+
+abbrev pub EntriesFit : Type 0
+EntriesFit = (d : DeltaValue) → IsDelta d → AllByRecursion (FitsEntry d.schema) (entries_of d)
 
 -- a delta is the delta of its listed entries, and entries that rise are listed as they stand
 abbrev pub IsOfItsEntries : Type 0

@@ -46,6 +46,12 @@ pub fn keys_rise()
     ensures entries { law.EntriesRise }
 {}
 
+/// Each row and each entry fits the schema.
+pub fn all_fit()
+    ensures rows { law.RowsFit }
+    ensures entries { law.EntriesFit }
+{}
+
 /// A delta and the list of its entries are one and the same.
 pub fn entries_tell_the_delta()
     ensures of_its_entries { law.IsOfItsEntries }

@@ -1,0 +1,59 @@
+-- What single tokens are to the grammar.
+use Rattle.std.specs.Prelude.{◌≡◌, ℕ, Bool, true, false, if◌then◌else◌, List, [], ◌∷◌, Option, Some, None}
+use Rattle.std.specs.Str.{bytes_eq}
+use Rattle.nova_pig_tree.specs.declared.CallKind.{CallKind}
+use Rattle.nova_pig_tree.specs.declared.CallKind.TheVariants as k
+use Rattle.nova_pig_tree.specs.declared.CompareOp.{CompareOp}
+use Rattle.nova_pig_tree.specs.declared.Expr.{Expr}
+use Rattle.nova_pig_tree.specs.declared.Expr.TheVariants as e
+use Rattle.nova_pig_tree.specs.declared.token.Token.{Token}
+use Rattle.nova_pig_tree.specs.declared.token.Token.TheVariants.{Ident, Word, Group, Number, Position, Literal, Symbol}
+use Rattle.nova_pig_tree.specs.declared.token.Word.TheVariants as w
+use Rattle.nova_pig_tree.specs.declared.token.Symbol.TheVariants as s
+use Rattle.nova_pig_expr.specs.declared.operators.Level.{Level}
+use Rattle.nova_pig_expr.specs.declared.operators.Level.TheVariants as l
+use Rattle.nova_pig_expr.specs.declared.operators.BinaryOp.{BinaryOp}
+use Rattle.nova_pig_expr.specs.declared.operators.BinaryOp.TheVariants as b
+
+-- the operator of this level that the token is
+abbrev pub operator : Level → Token → Option BinaryOp
+operator l.Or (Word w.Or) = Some b.Or
+operator l.And (Word w.And) = Some b.And
+operator l.Sum (Symbol s.Plus) = Some b.Add
+operator l.Sum (Symbol s.Minus) = Some b.Sub
+operator l.Prod (Symbol s.Star) = Some b.Mul
+operator _ _ = None
+
+abbrev pub comparison : Token → Option CompareOp
+comparison (Symbol (s.Compare op)) = Some op
+comparison _ = None
+
+abbrev pub combine : BinaryOp → Expr → Expr → Expr
+combine b.Or = e.Or
+combine b.And = e.And
+combine b.Add = e.Add
+combine b.Sub = e.Sub
+combine b.Mul = e.Mul
+
+abbrev pub is_not : Token → Bool
+is_not (Word w.Not) = true
+is_not _ = false
+
+abbrev pub is_minus : Token → Bool
+is_minus (Symbol s.Minus) = true
+is_minus _ = false
+
+abbrev pub is_open : Token → Bool
+is_open (Symbol s.Open) = true
+is_open _ = false
+
+abbrev pub group_word : List ℕ
+group_word = 103 ∷ 114 ∷ 111 ∷ 117 ∷ 112 ∷ []
+
+-- COUNT, SUM, MIN and MAX
+unfoldable pub call_kind : List ℕ → Option CallKind
+call_kind a =
+    if bytes_eq a (67 ∷ 79 ∷ 85 ∷ 78 ∷ 84 ∷ []) then Some k.Count else
+    (if bytes_eq a (83 ∷ 85 ∷ 77 ∷ []) then Some k.Sum else
+    (if bytes_eq a (77 ∷ 73 ∷ 78 ∷ []) then Some k.Min else
+    (if bytes_eq a (77 ∷ 65 ∷ 88 ∷ []) then Some k.Max else None)))

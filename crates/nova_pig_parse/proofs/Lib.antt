@@ -1,0 +1,9 @@
+pub mod Cuts
+pub mod Deep
+pub mod Examples
+pub mod Lists
+pub mod Shrink
+pub mod Listing
+pub mod Parts
+pub mod Cut
+pub mod Whole

@@ -1,0 +1,4 @@
+pub mod Parse
+pub mod Deep
+pub mod Reads
+pub mod Statement

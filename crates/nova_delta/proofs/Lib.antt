@@ -1,0 +1,5 @@
+pub mod Folds
+pub mod Seen
+pub mod Applied
+pub mod Keyed
+pub mod Puts

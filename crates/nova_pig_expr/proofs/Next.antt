@@ -1,7 +1,7 @@
 -- What the first token says of a reading.
 use Rattle.std.proofs.Common.{◌≡◌, ℕ, zero, suc, ◌+◌, ◌<◌, Bool, true, false, List, [], ◌∷◌, length, Option, Some, None, refl, ap, ◌∙◌, arith}
-use Rattle.nova_pig_tree.specs.declared.CompareOp.{CompareOp}
-use Rattle.nova_pig_tree.specs.declared.Expr.{Expr}
+use Rattle.nova_pig_tree.specs.declared.expression.CompareOp.{CompareOp}
+use Rattle.nova_pig_tree.specs.declared.expression.Expr.{Expr}
 use Rattle.nova_pig_tree.specs.declared.token.Token.{Token}
 use Rattle.nova_pig_tree.specs.declared.token.Token.TheVariants.{Ident, Word, Group, Number, Position, Literal, Symbol}
 use Rattle.nova_pig_tree.specs.declared.token.Word.TheVariants as w

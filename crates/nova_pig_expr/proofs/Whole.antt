@@ -1,6 +1,6 @@
 -- All tokens as one expression.
 use Rattle.std.proofs.Common.{◌≡◌, ℕ, List, [], ◌∷◌, ◌++◌, Option, Some, None, Result, Ok, Err, MatchResult, ◌≢◌, refl, ap, sym, subst, ◌∙◌}
-use Rattle.nova_pig_tree.specs.declared.Expr.{Expr}
+use Rattle.nova_pig_tree.specs.declared.expression.Expr.{Expr}
 use Rattle.nova_pig_tree.specs.declared.token.Token.{Token}
 use Rattle.nova_pig_expr.specs.declared.fault.Fault.{Fault}
 use Rattle.nova_pig_expr.specs.declared.fault.Fault.TheVariants.{Syntax, Memory}

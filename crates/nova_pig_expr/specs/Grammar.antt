@@ -1,11 +1,11 @@
 -- The grammar of expressions, one case per production.
 use Rattle.std.specs.Prelude.{◌≡◌, ℕ, zero, suc, ◌+◌, ◌<◌, Bool, true, false, List, [], ◌∷◌, ◌++◌, Option, Some, None, ℤ}
-use Rattle.nova_pig_tree.specs.declared.Field.{Field}
-use Rattle.nova_pig_tree.specs.declared.Field.TheVariants as f
-use Rattle.nova_pig_tree.specs.declared.CallKind.{CallKind}
-use Rattle.nova_pig_tree.specs.declared.CompareOp.{CompareOp}
-use Rattle.nova_pig_tree.specs.declared.Expr.{Expr}
-use Rattle.nova_pig_tree.specs.declared.Expr.TheVariants as e
+use Rattle.nova_pig_tree.specs.declared.expression.Field.{Field}
+use Rattle.nova_pig_tree.specs.declared.expression.Field.TheVariants as f
+use Rattle.nova_pig_tree.specs.declared.expression.CallKind.{CallKind}
+use Rattle.nova_pig_tree.specs.declared.expression.CompareOp.{CompareOp}
+use Rattle.nova_pig_tree.specs.declared.expression.Expr.{Expr}
+use Rattle.nova_pig_tree.specs.declared.expression.Expr.TheVariants as e
 use Rattle.nova_pig_tree.specs.declared.token.Token.{Token}
 use Rattle.nova_pig_tree.specs.declared.token.Token.TheVariants.{Ident, Word, Group, Number, Position, Literal, Symbol}
 use Rattle.nova_pig_tree.specs.declared.token.Word.TheVariants as w

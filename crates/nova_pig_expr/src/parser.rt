@@ -170,19 +170,19 @@ impl<'a> Parser<'a> {
         self.tokens = rest;
         match &first.token {
             Token::Number(n) => Ok(Expr::Num(*n)),
-            Token::Literal(text) => Ok(Expr::Lit(Str::from_slice(alloc, text.bytes())?)),
+            Token::Literal(text) => Ok(Expr::Lit(text.copy(alloc)?)),
             Token::Position(n) => Ok(Expr::Ref(Field::At(*n))),
             Token::Group(true) => Ok(Expr::Ref(self.group_after(alloc)?)),
-            Token::Ident(name) => self.named(alloc, name.bytes()),
+            Token::Ident(name) => self.named(alloc, name),
             _ => Err(Fault::Syntax),
         }
     }
 
     /// What follows the first name of a call or a field.
-    fn named(&mut self, alloc: Global, name: &[u8]) -> Result<Expr, Fault>
+    fn named(&mut self, alloc: Global, name: &Str) -> Result<Expr, Fault>
         ensures { Answers (named name.now self.old) result self.new }
     {
-        let Some(kind) = call_kind(name) else {
+        let Some(kind) = call_kind(name.bytes()) else {
             return Ok(Expr::Ref(self.field_after(alloc, name)?));
         };
         let Some((first, rest)) = self.tokens.split_first() else {
@@ -205,7 +205,7 @@ impl<'a> Parser<'a> {
         let Token::Ident(name) = &first.token else {
             return Err(Fault::Syntax);
         };
-        let alias = Str::from_slice(alloc, name.bytes())?;
+        let alias = name.copy(alloc)?;
         self.tokens = rest;
         let field = self.call_field(alloc)?;
         self.close()?;
@@ -234,7 +234,7 @@ impl<'a> Parser<'a> {
         };
         self.tokens = rest;
         match &first.token {
-            Token::Ident(name) => self.field_after(alloc, name.bytes()),
+            Token::Ident(name) => self.field_after(alloc, name),
             Token::Group(true) => self.group_after(alloc),
             Token::Position(n) => Ok(Field::At(*n)),
             _ => Err(Fault::Syntax),
@@ -246,10 +246,10 @@ impl<'a> Parser<'a> {
         ensures { Answers (group_after self.old) result self.new }
     {
         let Some((first, rest)) = self.tokens.split_first() else {
-            return self.field_after(alloc, b"group");
+            return self.group_field(alloc);
         };
         let Token::Symbol(Symbol::Dot) = &first.token else {
-            return self.field_after(alloc, b"group");
+            return self.group_field(alloc);
         };
         let Some((second, rest)) = rest.split_first() else {
             return Err(Fault::Syntax);
@@ -257,16 +257,24 @@ impl<'a> Parser<'a> {
         let Token::Ident(second) = &second.token else {
             return Err(Fault::Syntax);
         };
-        let second = Str::from_slice(alloc, second.bytes())?;
+        let second = second.copy(alloc)?;
         self.tokens = rest;
         Ok(Field::GroupOf(second))
     }
 
+    /// What follows `group`, where no dot does.
+    fn group_field(&mut self, alloc: Global) -> Result<Field, Fault>
+        ensures { Answers (field_after tests.group_word self.old) result self.new }
+    {
+        let group = Str::new(alloc, "group")?;
+        self.field_after(alloc, &group)
+    }
+
     /// What follows the first name of a field.
-    fn field_after(&mut self, alloc: Global, name: &[u8]) -> Result<Field, Fault>
+    fn field_after(&mut self, alloc: Global, name: &Str) -> Result<Field, Fault>
         ensures { Answers (field_after name.now self.old) result self.new }
     {
-        let name = Str::from_slice(alloc, name)?;
+        let name = name.copy(alloc)?;
         let Some((first, rest)) = self.tokens.split_first() else {
             return Ok(Field::Plain(name));
         };
@@ -279,7 +287,7 @@ impl<'a> Parser<'a> {
         let Token::Ident(second) = &second.token else {
             return Err(Fault::Syntax);
         };
-        let second = Str::from_slice(alloc, second.bytes())?;
+        let second = second.copy(alloc)?;
         self.tokens = rest;
         Ok(Field::Of(name, second))
     }

@@ -1,7 +1,7 @@
 //! The whole of some tokens as one expression.
 
 ghost use Rattle.std.specs.Prelude.{◌≡◌, List, map, IfOk, IsErrOf, MatchResult};
-ghost use Rattle.nova_pig_tree.specs.declared.Expr.{Expr};
+ghost use Rattle.nova_pig_tree.specs.declared.expression.Expr.{Expr};
 ghost use Rattle.nova_pig_tree.specs.declared.token.Token.{Token};
 ghost use Rattle.nova_pig_expr.specs.Grammar.{Part, Derives, whole};
 

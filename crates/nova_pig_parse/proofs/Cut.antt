@@ -1,12 +1,12 @@
 -- Statements are read exactly.
 use Rattle.std.proofs.Common.{◌≡◌, ℕ, zero, suc, ◌+◌, ◌<◌, ◌≤◌, Bool, true, false, List, [], ◌∷◌, ◌++◌, length, Option, Some, None, refl, ap, sym, subst, ◌∙◌, arith, append_assoc}
 use Rattle.nova_value.specs.declared.value.Kind.{Kind}
-use Rattle.nova_pig_tree.specs.declared.Field.{Field}
-use Rattle.nova_pig_tree.specs.declared.Item.{Item}
-use Rattle.nova_pig_tree.specs.declared.Item.TheVariants as item
-use Rattle.nova_pig_tree.specs.declared.Op.{Op}
-use Rattle.nova_pig_tree.specs.declared.Op.TheVariants as op
-use Rattle.nova_pig_tree.specs.declared.Expr.{Expr}
+use Rattle.nova_pig_tree.specs.declared.expression.Field.{Field}
+use Rattle.nova_pig_tree.specs.declared.statement.Item.{Item}
+use Rattle.nova_pig_tree.specs.declared.statement.Item.TheVariants as item
+use Rattle.nova_pig_tree.specs.declared.statement.Op.{Op}
+use Rattle.nova_pig_tree.specs.declared.statement.Op.TheVariants as op
+use Rattle.nova_pig_tree.specs.declared.expression.Expr.{Expr}
 use Rattle.nova_pig_tree.specs.declared.token.Token.{Token}
 use Rattle.nova_pig_tree.specs.declared.token.Token.TheVariants.{Ident, Word, Group, Number, Position, Literal, Symbol}
 use Rattle.nova_pig_tree.specs.declared.token.Word.TheVariants as w
@@ -20,8 +20,8 @@ use Rattle.nova_pig_expr.proofs.Complete.{read-complete, field-read, Stops}
 use Rattle.nova_pig_parse.specs.Reads.{listed, kind_of, some_kind, kind_at, label_at, flatten_at, value_at, item_at, name_at, columns_at, shut, by_at, generate_at, filter_at, foreach_at, op_at, begins_comma, group_at, join_at, union_at, two, comma_at, ended, define_at, store_at, cut_at, body_of, all_of, text_at}
 use Rattle.nova_pig_parse.specs.Statement as st
 use Rattle.nova_pig_parse.specs.Statement.{Listed, IsLabel, IsItem, IsColumns, IsName, IsOp, Ended, IsCut}
-use Rattle.nova_pig_tree.specs.declared.Body.{Body}
-use Rattle.nova_pig_tree.specs.declared.Body.TheVariants as body
+use Rattle.nova_pig_tree.specs.declared.statement.Body.{Body}
+use Rattle.nova_pig_tree.specs.declared.statement.Body.TheVariants as body
 use Rattle.nova_pig_parse.proofs.Parts.{ended-stops, items-complete, items-sound, foreach-complete, filter-complete}
 use Rattle.nova_pig_parse.proofs.Lists.{NoLonger}
 use Rattle.nova_pig_parse.proofs.Shrink.{item-no_longer, field-no_longer, name-no_longer}

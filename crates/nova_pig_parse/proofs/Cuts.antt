@@ -2,7 +2,7 @@
 use Rattle.std.proofs.Common.{◌≡◌, ℕ, zero, suc, ◌+◌, ◌<◌, ◌≤◌, Bool, true, false, List, [], ◌∷◌, ◌++◌, length, take, drop, Result, Ok, Err, refl, ap, sym, ◌∙◌, arith, rules, append_assoc, add-one}
 use Rattle.std.specs.Prelude.{if◌then◌else◌}
 use Rattle.std.proofs.Math.ListN.{drop_of_length-le}
-use Rattle.nova_pig_tree.specs.declared.Statement.{Statement}
+use Rattle.nova_pig_tree.specs.declared.statement.Statement.{Statement}
 use Rattle.nova_pig_tree.specs.declared.token.Placed.{Placed}
 use Rattle.nova_pig_parse.specs.declared.text.ParseFault.{ParseFault}
 use Rattle.nova_pig_parse.specs.declared.text.ParseFault.TheVariants as fault

@@ -1,8 +1,8 @@
 -- Texts that are scripts, and texts that aren't.
 use Rattle.std.proofs.Common.{◌≡◌, ℕ, List, [], ◌∷◌, Result, Ok, Err, refl}
-use Rattle.nova_pig_tree.specs.declared.Statement.{Statement}
-use Rattle.nova_pig_tree.specs.declared.Body.TheVariants as body
-use Rattle.nova_pig_tree.specs.declared.Op.TheVariants as op
+use Rattle.nova_pig_tree.specs.declared.statement.Statement.{Statement}
+use Rattle.nova_pig_tree.specs.declared.statement.Body.TheVariants as body
+use Rattle.nova_pig_tree.specs.declared.statement.Op.TheVariants as op
 use Rattle.nova_pig_scan.specs.Tokens.{scan}
 use Rattle.nova_pig_scan.specs.Lex.{literal, keyword, block}
 use Rattle.nova_pig_parse.specs.declared.text.ParseFault.TheVariants as fault

@@ -1,12 +1,12 @@
 -- Items and columns are read exactly.
 use Rattle.std.proofs.Common.{◌≡◌, ℕ, zero, suc, ◌+◌, ◌<◌, ◌≤◌, Bool, true, false, List, [], ◌∷◌, ◌++◌, length, Option, Some, None, refl, ap, sym, subst, ◌∙◌, arith, append_assoc}
 use Rattle.nova_value.specs.declared.value.Kind.{Kind}
-use Rattle.nova_pig_tree.specs.declared.Field.{Field}
-use Rattle.nova_pig_tree.specs.declared.Item.{Item}
-use Rattle.nova_pig_tree.specs.declared.Item.TheVariants as item
-use Rattle.nova_pig_tree.specs.declared.Op.{Op}
-use Rattle.nova_pig_tree.specs.declared.Op.TheVariants as op
-use Rattle.nova_pig_tree.specs.declared.Expr.{Expr}
+use Rattle.nova_pig_tree.specs.declared.expression.Field.{Field}
+use Rattle.nova_pig_tree.specs.declared.statement.Item.{Item}
+use Rattle.nova_pig_tree.specs.declared.statement.Item.TheVariants as item
+use Rattle.nova_pig_tree.specs.declared.statement.Op.{Op}
+use Rattle.nova_pig_tree.specs.declared.statement.Op.TheVariants as op
+use Rattle.nova_pig_tree.specs.declared.expression.Expr.{Expr}
 use Rattle.nova_pig_tree.specs.declared.token.Token.{Token}
 use Rattle.nova_pig_tree.specs.declared.token.Token.TheVariants.{Ident, Word, Group, Number, Position, Literal, Symbol}
 use Rattle.nova_pig_tree.specs.declared.token.Word.TheVariants as w

@@ -1,8 +1,8 @@
 -- Readers add no tokens.
 use Rattle.std.proofs.Common.{◌≡◌, ℕ, zero, suc, ◌+◌, ◌<◌, ◌≤◌, Bool, true, false, List, [], ◌∷◌, length, Option, Some, None, refl, ap, sym, ◌∙◌, arith}
 use Rattle.nova_value.specs.declared.value.Kind.{Kind}
-use Rattle.nova_pig_tree.specs.declared.Item.{Item}
-use Rattle.nova_pig_tree.specs.declared.Item.TheVariants as item
+use Rattle.nova_pig_tree.specs.declared.statement.Item.{Item}
+use Rattle.nova_pig_tree.specs.declared.statement.Item.TheVariants as item
 use Rattle.nova_pig_tree.specs.declared.token.Token.{Token}
 use Rattle.nova_pig_tree.specs.declared.token.Token.TheVariants.{Ident, Word, Group, Number, Position, Literal, Symbol}
 use Rattle.nova_pig_tree.specs.declared.token.Word.TheVariants as w

@@ -1,8 +1,8 @@
 -- The script that a text is, or its first fault.
 use Rattle.std.specs.Prelude.{◌≡◌, ℕ, zero, suc, ◌+◌, Bool, true, false, not, ◌&&◌, ◌||◌, if◌then◌else◌, ◌==◌, nat_lt, List, [], ◌∷◌, ◌++◌, length, map, count_by, Option, Some, None, Result, Ok, Err}
-use Rattle.nova_pig_tree.specs.declared.Body.{Body}
-use Rattle.nova_pig_tree.specs.declared.Body.TheVariants as body
-use Rattle.nova_pig_tree.specs.declared.Statement.{Statement}
+use Rattle.nova_pig_tree.specs.declared.statement.Body.{Body}
+use Rattle.nova_pig_tree.specs.declared.statement.Body.TheVariants as body
+use Rattle.nova_pig_tree.specs.declared.statement.Statement.{Statement}
 use Rattle.nova_pig_tree.specs.declared.token.Token.{Token}
 use Rattle.nova_pig_tree.specs.declared.token.Token.TheVariants.{Ident, Word, Group, Number, Position, Literal, Symbol}
 use Rattle.nova_pig_tree.specs.declared.token.Placed.{Placed}

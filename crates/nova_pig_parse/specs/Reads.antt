@@ -3,14 +3,14 @@ use Rattle.std.specs.Prelude.{◌≡◌, ℕ, zero, suc, ◌+◌, Bool, true, fa
 use Rattle.std.specs.Str.{bytes_eq}
 use Rattle.nova_value.specs.declared.value.Kind.{Kind}
 use Rattle.nova_value.specs.declared.value.Kind.TheVariants as kind
-use Rattle.nova_pig_tree.specs.declared.Field.{Field}
-use Rattle.nova_pig_tree.specs.declared.Item.{Item}
-use Rattle.nova_pig_tree.specs.declared.Item.TheVariants as item
-use Rattle.nova_pig_tree.specs.declared.Op.{Op}
-use Rattle.nova_pig_tree.specs.declared.Op.TheVariants as op
-use Rattle.nova_pig_tree.specs.declared.Body.{Body}
-use Rattle.nova_pig_tree.specs.declared.Body.TheVariants as body
-use Rattle.nova_pig_tree.specs.declared.Expr.{Expr}
+use Rattle.nova_pig_tree.specs.declared.expression.Field.{Field}
+use Rattle.nova_pig_tree.specs.declared.statement.Item.{Item}
+use Rattle.nova_pig_tree.specs.declared.statement.Item.TheVariants as item
+use Rattle.nova_pig_tree.specs.declared.statement.Op.{Op}
+use Rattle.nova_pig_tree.specs.declared.statement.Op.TheVariants as op
+use Rattle.nova_pig_tree.specs.declared.statement.Body.{Body}
+use Rattle.nova_pig_tree.specs.declared.statement.Body.TheVariants as body
+use Rattle.nova_pig_tree.specs.declared.expression.Expr.{Expr}
 use Rattle.nova_pig_tree.specs.declared.token.Token.{Token}
 use Rattle.nova_pig_tree.specs.declared.token.Token.TheVariants.{Ident, Word, Group, Number, Position, Literal, Symbol}
 use Rattle.nova_pig_tree.specs.declared.token.Word.TheVariants as w

@@ -4,7 +4,7 @@ ghost use Rattle.std.specs.Prelude.{◌≡◌, ◌<◌, length, map, OnOk, IfOk,
 ghost use Rattle.nova_pig_expr.specs.Reading.{Answers};
 ghost use Rattle.nova_pig_parse.specs.Reads as spec;
 ghost use Rattle.nova_pig_parse.specs.Statement.{IsCut};
-ghost use Rattle.nova_pig_tree.specs.declared.Body.{Body};
+ghost use Rattle.nova_pig_tree.specs.declared.statement.Body.{Body};
 
 use crate::part::{columns_at, items_at, name_at, names_at};
 use nova_pig_expr::{Fault, Parser};

@@ -1,7 +1,9 @@
 //! Tokens of a script.
 
-use crate::{CompareOp, Str};
+use crate::expression::CompareOp;
+use nova_value::Str;
 
+/// A keyword, except `GROUP`.
 #[derive(Clone, Copy, Debug, PartialEq, Eq)]
 pub enum Word {
     And,
@@ -23,6 +25,7 @@ pub enum Word {
     Union,
 }
 
+/// A symbol: `=`, a comparison, `+ - * ( ) , ; . : ::` or `?`.
 #[derive(Clone, Copy, Debug, PartialEq, Eq)]
 pub enum Symbol {
     Assign,
@@ -40,22 +43,26 @@ pub enum Symbol {
     Question,
 }
 
+/// A token.
 #[derive(Debug, Drop)]
 pub enum Token {
+    /// An identifier.
     Ident(Str),
     Word(Word),
-    /// The keyword GROUP, and whether it is spelled `group`.
+    /// The keyword `GROUP`, and whether it is spelled exactly `group`, as a field is.
     Group(bool),
     Number(i64),
+    /// The number after a `$`.
     Position(u64),
+    /// The text of a literal, after its escapes.
     Literal(Str),
     Symbol(Symbol),
 }
 
-/// A token, with the places where it begins and ends.
+/// A token, with the byte places in the text where it begins and ends.
 #[derive(Debug, Drop)]
 pub struct Placed {
     pub token: Token,
-    pub start: usize,
-    pub end: usize,
+    pub start: u64,
+    pub end: u64,
 }

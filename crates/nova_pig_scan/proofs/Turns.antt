@@ -11,13 +11,15 @@ use Rattle.nova_pig_scan.specs.declared.lex.Class.{Class}
 use Rattle.nova_pig_scan.specs.declared.lex.Class.TheVariants as class
 use Rattle.nova_pig_scan.specs.declared.lex.Step.{Step}
 use Rattle.nova_pig_scan.specs.declared.lex.Step.TheVariants as st
-use Rattle.nova_pig_scan.specs.declared.piece.Cause.{Cause}
+use Rattle.nova_pig_scan.specs.declared.scan.Cause.{Cause}
 use Rattle.nova_pig_scan.specs.declared.piece.Piece.{Piece}
-use Rattle.nova_pig_scan.specs.declared.piece.Piece.TheVariants.{End, Skip, Take, Bad}
+use Rattle.nova_pig_scan.specs.declared.piece.Piece.TheVariants.{End, Skip, Take, TooLarge, Bad}
 use Rattle.nova_pig_tree.specs.declared.token.Placed.{Placed}
 use Rattle.nova_pig_scan.specs.declared.scan.TextFault.{TextFault}
-use Rattle.nova_pig_scan.specs.Lex.{Text, class_of, second, line_len, block, two_more, word_len, digit_len, is_word, capped, literal, literal_by, with_byte, further, step_of, symbol, symbol_by, single_symbol}
-use Rattle.nova_pig_scan.specs.Tokens.{Outcome, piece, piece_by, dash, comment, slash, word, number, numeral, position, quoted, symbol_piece, scan, scan_by, tokens, placed, onto, after, next, Within}
+use Rattle.nova_pig_scan.specs.Lex.{class_of, line_len, block, two_more, word_len, digit_len, capped, literal, literal_by, with_byte, further, step_of, symbol, symbol_by, single_symbol}
+use Rattle.nova_pig_scan.specs.Lexemes.{Text, begins, is_word}
+use Rattle.nova_pig_scan.specs.Text.{placed}
+use Rattle.nova_pig_scan.specs.Tokens.{Outcome, piece, piece_by, dash, comment, slash, word, number, numeral, position, quoted, symbol_piece, scan, scan_by, tokens, onto, after, next, Within}
 
 -- the bytes inside a piece are passed over
 pub scan_inside : (n at : ℕ) (text : Text) → scan n at text ≡ scan 0 (at + n) (drop n text)
@@ -55,9 +57,9 @@ block_by-within true o n h k = let one = k refl in omega (arith, one)
 block_by-within false None n h k = tt
 block_by-within false (Some m) n h k = omega (arith, h)
 
-second-some : (b : ℕ) (text : Text) → second b text ≡ true → 1 ≤ length text
-second-some b [] e = absurd cc
-second-some b (c ∷ cs) e = omega arith
+begins-some : (b : ℕ) (text : Text) → begins b text ≡ true → 1 ≤ length text
+begins-some b [] e = absurd cc
+begins-some b (c ∷ cs) e = omega arith
 
 and-right : (a b : Bool) → (a && b) ≡ true → b ≡ true
 and-right true b e = e
@@ -68,7 +70,7 @@ unfolding block
 block-within [] = tt
 block-within (b ∷ bs) =
     let e : suc (length bs) ≡ length bs + 1 = omega arith in
-    rw e (block_by-within (b == 42 && second 47 bs) (block bs) (length bs) (block-within bs) (λ h. second-some 47 bs (and-right (b == 42) (second 47 bs) h)))
+    rw e (block_by-within (b == 42 && begins 47 bs) (block bs) (length bs) (block-within bs) (λ h. begins-some 47 bs (and-right (b == 42) (begins 47 bs) h)))
 
 chosen : (t : Bool) (p q : Piece) (n : ℕ) → (t ≡ true → Within p n) → (t ≡ false → Within q n) → Within (if t then p else q) n
 chosen true p q n h k = h refl
@@ -83,7 +85,7 @@ quoted-within None n h = tt
 quoted-within (Some p) n h = (omega arith, omega (arith, h))
 
 numeral-within : (value n len : ℕ) → 0 < n → n ≤ len → Within (numeral value n) len
-numeral-within value n len h k = chosen (value == 9223372036854775808) _ _ len (λ e. tt) (λ e. (h, k))
+numeral-within value n len h k = chosen (value == 9223372036854775808) _ _ len (λ e. (h, k)) (λ e. (h, k))
 
 line-le : (bs : Text) → line_len bs ≤ length bs
 line-le bs = prefix_len-le-length _ bs
@@ -102,9 +104,9 @@ slash-within : (bs : Text) → Within (slash bs) (suc (length bs))
 slash-within [] = tt
 slash-within (b ∷ bs) = chosen (b == 42) _ _ _ (λ e. comment-within (block bs) (length bs) (block-within bs)) (λ e. tt)
 
-number_len : (after : Text) (n len : ℕ) → n + length after ≤ len → (if second 76 after || second 108 after then n + 1 else n) ≤ len
+number_len : (after : Text) (n len : ℕ) → n + length after ≤ len → (if begins 76 after || begins 108 after then n + 1 else n) ≤ len
 number_len [] n len h = omega (arith, h)
-number_len (b ∷ bs) n len h = more (second 76 (b ∷ bs) || second 108 (b ∷ bs))
+number_len (b ∷ bs) n len h = more (begins 76 (b ∷ bs) || begins 108 (b ∷ bs))
   where
     more : (t : Bool) → (if t then n + 1 else n) ≤ len
     more true = omega (arith, h)
@@ -139,11 +141,11 @@ two-within false a b n h = (omega arith, omega arith)
 
 symbol_by-within : (b : ℕ) (bs : Text) → Symbolic (symbol_by b bs) (suc (length bs))
 symbol_by-within b bs =
-    symbolic_if (b == 61) _ _ _ (λ e. two-within (second 61 bs) _ _ _ (second-some 61 bs)) (λ e.
-    symbolic_if (b == 33 && second 61 bs) _ _ _ (λ e. let k = second-some 61 bs (and-right (b == 33) _ e) in (omega arith, omega (arith, k))) (λ e.
-    symbolic_if (b == 60) _ _ _ (λ e. two-within (second 61 bs) _ _ _ (second-some 61 bs)) (λ e.
-    symbolic_if (b == 62) _ _ _ (λ e. two-within (second 61 bs) _ _ _ (second-some 61 bs)) (λ e.
-    symbolic_if (b == 58) _ _ _ (λ e. two-within (second 58 bs) _ _ _ (second-some 58 bs)) (λ e.
+    symbolic_if (b == 61) _ _ _ (λ e. two-within (begins 61 bs) _ _ _ (begins-some 61 bs)) (λ e.
+    symbolic_if (b == 33 && begins 61 bs) _ _ _ (λ e. let k = begins-some 61 bs (and-right (b == 33) _ e) in (omega arith, omega (arith, k))) (λ e.
+    symbolic_if (b == 60) _ _ _ (λ e. two-within (begins 61 bs) _ _ _ (begins-some 61 bs)) (λ e.
+    symbolic_if (b == 62) _ _ _ (λ e. two-within (begins 61 bs) _ _ _ (begins-some 61 bs)) (λ e.
+    symbolic_if (b == 58) _ _ _ (λ e. two-within (begins 58 bs) _ _ _ (begins-some 58 bs)) (λ e.
     single-within b _ (omega arith))))))
 
 symbol_piece-within : (o : Option (Symbol × ℕ)) (n : ℕ) → Symbolic o n → Within (symbol_piece o) n
@@ -152,7 +154,7 @@ symbol_piece-within (Some p) n h = h
 
 position-within : (bs : Text) → Within (position bs) (suc (length bs))
 position-within bs = chosen (digit_len bs == 0) _ _ _ (λ e. tt) (λ e.
-    chosen (capped (take (digit_len bs) bs) == 9223372036854775808) _ _ _ (λ e. tt)
+    chosen (capped (take (digit_len bs) bs) == 9223372036854775808) _ _ _ (λ e. (omega arith, let h = digits-le bs in omega (arith, h)))
     (λ e. (omega arith, let h = digits-le bs in omega (arith, h))))
 
 piece_by-within : (c : Class) (b : ℕ) (bs : Text) → Within (piece_by c (b ∷ bs) bs) (suc (length bs))
@@ -184,7 +186,8 @@ scan_by-same (Take t (suc n)) b at bs h = ap (onto (placed t at (suc n))) (goes 
   where
     goes : (n : ℕ) → scan (suc n - 1) (at + 1) bs ≡ scan 0 (at + suc n) (drop n bs)
     goes n = let e : suc n - 1 ≡ n = omega arith in let f : at + suc n ≡ at + 1 + n = omega arith in rw (e, f) (scan_inside n (at + 1) bs)
-scan_by-same (Bad c) b at bs h = refl
+scan_by-same (TooLarge n) b at bs h = refl
+scan_by-same Bad b at bs h = refl
 
 -- the tokens from a place on are those of the piece there and of what follows it
 pub scan_step : (at : ℕ) (text : Text) → scan 0 at text ≡ next (piece text) at text

@@ -1,4 +1,4 @@
--- The pieces that a text is cut into: the longest run, keyword or symbol in front.
+-- The runs of bytes that pieces are made of, as the code finds them.
 use Rattle.std.specs.Prelude.{◌≡◌, ℕ, zero, suc, ◌+◌, ◌-◌, ◌*◌, min, Bool, true, false, not, ◌&&◌, ◌||◌, if◌then◌else◌, ◌==◌, List, [], ◌∷◌, ◌++◌, length, map, fold, Option, Some, None, Result, Ok, Err, codes}
 use Rattle.std.specs.List.{position_or_len}
 use Rattle.std.specs.Char.{is_ascii_digit, is_ascii_alphanumeric, is_ascii_alphabetic}
@@ -14,12 +14,7 @@ use Rattle.nova_pig_scan.specs.declared.lex.Step.TheVariants as st
 use Rattle.nova_pig_scan.specs.declared.lex.LexFault.{LexFault}
 use Rattle.nova_pig_scan.specs.declared.lex.LexFault.TheVariants.{Token, Memory}
 use Rattle.nova_pig_scan.specs.declared.lex.TheConstants.{KEYWORDS}
-
-abbrev pub Text : Type 0
-Text = List ℕ
-
-abbrev pub is_word : ℕ → Bool
-is_word b = is_ascii_alphanumeric b || b == 95
+use Rattle.nova_pig_scan.specs.Lexemes.{Text, is_word, is_blank, is_newline, begins, value, is_escaped, is_plain}
 
 -- the letters, digits and `_` in front
 abbrev pub word_len : Text → ℕ
@@ -30,7 +25,7 @@ digit_len = position_or_len (λ b. not (is_ascii_digit b))
 
 abbrev pub class_of : ℕ → Class
 class_of b =
-    if b == 32 || b == 9 || b == 13 || b == 10 then class.Blank else
+    if is_blank b then class.Blank else
     (if b == 45 then class.Dash else
     (if b == 47 then class.Slash else
     (if is_ascii_alphabetic b then class.Letter else
@@ -45,15 +40,8 @@ lookup (k ∷ ks) word = if str_eq_ignore_ascii_case k.0 word then Some k.1 else
 unfoldable pub keyword : Text → Option Word
 keyword = lookup (map (λ k. (k.0.now, k.1)) KEYWORDS)
 
-abbrev pub value : Text → ℕ
-value = fold (λ n b. 10 * n + (b - 48)) 0
-
 abbrev pub capped : Text → ℕ
 capped digits = min (value digits) 9223372036854775808
-
-abbrev pub second : ℕ → Text → Bool
-second b [] = false
-second b (c ∷ cs) = c == b
 
 abbrev pub single_symbol : ℕ → Option (Symbol × ℕ)
 single_symbol b =
@@ -66,14 +54,14 @@ single_symbol b =
     (if b == 46 then Some (s.Dot, 1) else
     (if b == 63 then Some (s.Question, 1) else None)))))))
 
--- one byte, or two where `=` or a second `:` follows
+-- one byte, or two where `=` or a begins `:` follows
 abbrev pub symbol_by : ℕ → Text → Option (Symbol × ℕ)
 symbol_by b rest =
-    if b == 61 then (if second 61 rest then Some (s.Compare c.Eq, 2) else Some (s.Assign, 1)) else
-    (if b == 33 && second 61 rest then Some (s.Compare c.Ne, 2) else
-    (if b == 60 then (if second 61 rest then Some (s.Compare c.Le, 2) else Some (s.Compare c.Lt, 1)) else
-    (if b == 62 then (if second 61 rest then Some (s.Compare c.Ge, 2) else Some (s.Compare c.Gt, 1)) else
-    (if b == 58 then (if second 58 rest then Some (s.ColonColon, 2) else Some (s.Colon, 1)) else single_symbol b))))
+    if b == 61 then (if begins 61 rest then Some (s.Compare c.Eq, 2) else Some (s.Assign, 1)) else
+    (if b == 33 && begins 61 rest then Some (s.Compare c.Ne, 2) else
+    (if b == 60 then (if begins 61 rest then Some (s.Compare c.Le, 2) else Some (s.Compare c.Lt, 1)) else
+    (if b == 62 then (if begins 61 rest then Some (s.Compare c.Ge, 2) else Some (s.Compare c.Gt, 1)) else
+    (if b == 58 then (if begins 58 rest then Some (s.ColonColon, 2) else Some (s.Colon, 1)) else single_symbol b))))
 
 abbrev pub symbol : Text → Option (Symbol × ℕ)
 symbol [] = None
@@ -88,7 +76,7 @@ further (Some p) = Some (p.0, p.1 + 1)
 further None = None
 
 abbrev pub step_of : Bool → ℕ → Step
-step_of true b = if b == 39 || b == 92 then st.Keep else st.Bad
+step_of true b = if is_escaped b then st.Keep else st.Bad
 step_of false b = if b == 39 then st.Close else (if b == 92 then st.Escape else (if b == 9 || b == 10 then st.Bad else st.Keep))
 
 abbrev pub literal_by : Step → ℕ → Option (Text × ℕ) → Option (Text × ℕ) → Option (Text × ℕ)
@@ -109,7 +97,7 @@ Gives o (Err Memory) = Unit {0}
 
 -- up to the end of the line
 abbrev pub line_len : Text → ℕ
-line_len = position_or_len (λ b. b == 10)
+line_len = position_or_len is_newline
 
 -- an answer from a place on, as one of the whole
 abbrev pub from_place : ℕ → Option ℕ → Option ℕ
@@ -126,4 +114,4 @@ two_more None = None
 
 unfoldable pub block : Text → Option ℕ
 block [] = None
-block (b ∷ bs) = let rest = block bs in if b == 42 && second 47 bs then Some 2 else two_more rest
+block (b ∷ bs) = let rest = block bs in if b == 42 && begins 47 bs then Some 2 else two_more rest

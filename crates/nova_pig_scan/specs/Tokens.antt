@@ -8,14 +8,16 @@ use Rattle.nova_pig_tree.specs.declared.token.Token.{Token}
 use Rattle.nova_pig_tree.specs.declared.token.Token.TheVariants as t
 use Rattle.nova_pig_scan.specs.declared.lex.Class.{Class}
 use Rattle.nova_pig_scan.specs.declared.lex.Class.TheVariants as class
-use Rattle.nova_pig_scan.specs.declared.piece.Cause.{Cause}
-use Rattle.nova_pig_scan.specs.declared.piece.Cause.TheVariants as cause
+use Rattle.nova_pig_scan.specs.declared.scan.Cause.{Cause}
+use Rattle.nova_pig_scan.specs.declared.scan.Cause.TheVariants as cause
 use Rattle.nova_pig_scan.specs.declared.piece.Piece.{Piece}
-use Rattle.nova_pig_scan.specs.declared.piece.Piece.TheVariants.{End, Skip, Take, Bad}
+use Rattle.nova_pig_scan.specs.declared.piece.Piece.TheVariants.{End, Skip, Take, TooLarge, Bad}
 use Rattle.nova_pig_tree.specs.declared.token.Placed.{Placed}
 use Rattle.nova_pig_scan.specs.declared.scan.TextFault.{TextFault}
 use Rattle.nova_pig_scan.specs.declared.scan.TextFault.TheVariants.{At, Memory}
-use Rattle.nova_pig_scan.specs.Lex.{Text, class_of, second, line_len, block, word_len, digit_len, keyword, capped, literal, symbol}
+use Rattle.nova_pig_scan.specs.Lexemes.{Text, begins, group_word, name_of}
+use Rattle.nova_pig_scan.specs.Lex.{class_of, line_len, block, word_len, digit_len, keyword, capped, literal, symbol}
+use Rattle.nova_pig_scan.specs.Text.{placed}
 
 -- after a first `-`
 abbrev pub dash : Text → Piece
@@ -24,19 +26,16 @@ dash (b ∷ bs) = if b == 45 then Skip (line_len bs + 2) else Take (t.Symbol s.M
 
 abbrev pub comment : Option ℕ → Piece
 comment (Some n) = Skip (n + 2)
-comment None = Bad cause.Token
+comment None = Bad
 
 -- after a first `/`
 abbrev pub slash : Text → Piece
-slash [] = Bad cause.Token
-slash (b ∷ bs) = if b == 42 then comment (block bs) else Bad cause.Token
+slash [] = Bad
+slash (b ∷ bs) = if b == 42 then comment (block bs) else Bad
 
 abbrev pub keyword_or : Text → Option Word → Token
 keyword_or word (Some w) = t.Word w
-keyword_or word None = t.Ident word
-
-abbrev pub group_word : Text
-group_word = 103 ∷ 114 ∷ 111 ∷ 117 ∷ 112 ∷ []
+keyword_or word None = name_of word
 
 abbrev pub word_token : Text → Token
 word_token word = if str_eq_ignore_ascii_case word group_word then t.Group (bytes_eq word group_word) else keyword_or word (keyword word)
@@ -45,24 +44,24 @@ abbrev pub word : Text → Text → Piece
 word text rest = let n = word_len rest + 1 in Take (word_token (take n text)) n
 
 abbrev pub numeral : ℕ → ℕ → Piece
-numeral value n = if value == 9223372036854775808 then Bad cause.NumberTooLarge else Take (t.Number (pos value)) n
+numeral value n = if value == 9223372036854775808 then TooLarge n else Take (t.Number (pos value)) n
 
 -- digits, and an `L` or `l` after them
 abbrev pub number : Text → Text → Piece
 number text rest = let n = digit_len rest + 1 in let after = drop n text in
-    numeral (capped (take n text)) (if second 76 after || second 108 after then n + 1 else n)
+    numeral (capped (take n text)) (if begins 76 after || begins 108 after then n + 1 else n)
 
 abbrev pub position : Text → Piece
 position text = let n = digit_len text in let value = capped (take n text) in
-    if n == 0 then Bad cause.Token else (if value == 9223372036854775808 then Bad cause.NumberTooLarge else Take (t.Position value) (n + 1))
+    if n == 0 then Bad else (if value == 9223372036854775808 then TooLarge (n + 1) else Take (t.Position value) (n + 1))
 
 abbrev pub quoted : Option (Text × ℕ) → Piece
 quoted (Some p) = Take (t.Literal p.0) (p.1 + 1)
-quoted None = Bad cause.Token
+quoted None = Bad
 
 abbrev pub symbol_piece : Option (Symbol × ℕ) → Piece
 symbol_piece (Some p) = Take (t.Symbol p.0) p.1
-symbol_piece None = Bad cause.Token
+symbol_piece None = Bad
 
 abbrev pub piece_by : Class → Text → Text → Piece
 piece_by class.Blank text rest = Skip 1
@@ -82,9 +81,6 @@ piece (b ∷ bs) = piece_by (class_of b) (b ∷ bs) bs
 abbrev pub Outcome : Type 0
 Outcome = Result (List Placed) TextFault
 
-abbrev pub placed : Token → ℕ → ℕ → Placed
-placed t at n = record { token = t; start = at; end = at + n }
-
 abbrev pub onto : Placed → Outcome → Outcome
 onto p (Ok ps) = Ok (p ∷ ps)
 onto p (Err f) = Err f
@@ -93,7 +89,8 @@ abbrev pub scan_by : Piece → ℕ → (ℕ → Outcome) → Outcome
 scan_by End at further = Ok []
 scan_by (Skip n) at further = further n
 scan_by (Take t n) at further = onto (placed t at n) (further n)
-scan_by (Bad cause) at further = Err (At cause at)
+scan_by (TooLarge n) at further = Err (At cause.NumberTooLarge at)
+scan_by Bad at further = Err (At cause.Token at)
 
 -- The tokens from a place on, where so many bytes still belong to the piece before: each further byte begins a piece.
 unfoldable pub scan : ℕ → ℕ → Text → Outcome
@@ -112,6 +109,7 @@ Gives spec result = result ≡ spec
 abbrev pub Within : Piece → ℕ → Type 0
 Within (Skip n) len = (0 < n) × (n ≤ len)
 Within (Take t n) len = (0 < n) × (n ≤ len)
+Within (TooLarge n) len = (0 < n) × (n ≤ len)
 Within _ len = Unit {0}
 
 -- the tokens after some that were read

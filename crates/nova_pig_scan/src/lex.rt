@@ -3,6 +3,7 @@
 ghost use Rattle.std.specs.Prelude.{◌≡◌, ◌≤◌, length, map, false, IfOk, MatchOption};
 ghost use Rattle.std.specs.Str.{str_eq_ignore_ascii_case};
 ghost use Rattle.nova_pig_scan.specs.Lex as spec;
+ghost use Rattle.nova_pig_scan.specs.Lexemes.{is_word, begins};
 
 use nova_pig_tree::{CompareOp, Symbol, Word};
 use sqlite_items::Items;
@@ -44,7 +45,7 @@ pub fn class_of(b: u8) -> Class
 }
 
 fn is_word(b: u8) -> bool
-    ensures { result ≡ spec.is_word b }
+    ensures { result ≡ is_word b }
 {
     b.is_ascii_alphanumeric() || b == b'_'
 }
@@ -263,7 +264,7 @@ pub fn block_comment(mut text: &[u8]) -> Option<usize>
 
 /// Whether the byte is in front.
 pub fn begins(b: u8, text: &[u8]) -> bool
-    ensures { result ≡ spec.second b text.now }
+    ensures { result ≡ begins b text.now }
 {
     match text {
         [first, ..] => *first == b,

@@ -1,6 +1,10 @@
 //! The piece that is in front of a text.
 
-ghost use Rattle.std.specs.Prelude.{◌≡◌, ◌+◌, length, IfOk, false};
+ghost use Rattle.std.specs.Prelude.{◌≡◌, ℕ, ◌+◌, ◌≤◌, ◌∷◌, length, drop, IfOk, true, false};
+ghost use Rattle.std.specs.Char.{is_ascii_alphabetic};
+ghost use Rattle.std.specs.Str.{is_utf8};
+ghost use Rattle.nova_value.specs.Text.{IsText};
+ghost use Rattle.nova_pig_scan.specs.Lexemes.{IsName, begins};
 ghost use Rattle.nova_pig_scan.specs.Lex.{literal, symbol};
 ghost use Rattle.nova_pig_scan.specs.Tokens as spec;
 
@@ -10,12 +14,7 @@ use crate::lex::{
 };
 use nova_pig_tree::{Str, Symbol, Token};
 use std::alloc::{AllocError, Global};
-
-#[derive(Clone, Copy, Debug, PartialEq, Eq)]
-pub enum Cause {
-    Token,
-    NumberTooLarge,
-}
+use std::str::from_utf8;
 
 /// What is in front of a text, and how many bytes it takes.
 #[derive(Drop)]
@@ -23,7 +22,8 @@ pub enum Piece {
     End,
     Skip(usize),
     Take(Token, usize),
-    Bad(Cause),
+    TooLarge(usize),
+    Bad,
 }
 
 fn dash(rest: &[u8]) -> Piece
@@ -43,18 +43,30 @@ fn slash(rest: &[u8]) -> Piece
     ensures { result ≡ spec.slash rest.now }
 {
     let Some((first, more)) = rest.split_first() else {
-        return Piece::Bad(Cause::Token);
+        return Piece::Bad;
     };
     if *first != b'*' {
-        return Piece::Bad(Cause::Token);
+        return Piece::Bad;
     }
     match block_comment(more) {
         Some(n) => Piece::Skip(n + 2),
-        None => Piece::Bad(Cause::Token),
+        None => Piece::Bad,
+    }
+}
+
+/// The text value that the bytes are.
+fn text_of(alloc: Global, bytes: &[u8]) -> Result<Str, AllocError>
+    requires { IsText bytes.now }
+    ensures { IfOk result (λ s. s ≡ bytes.now) }
+{
+    match from_utf8(bytes) {
+        Ok(text) => Str::new(alloc, text),
+        Err(_) => unreachable!(),
     }
 }
 
 fn word_token(alloc: Global, word: &[u8]) -> Result<Token, AllocError>
+    requires { IsName word.now }
     ensures { IfOk result (λ t. t ≡ spec.word_token word.now) }
 {
     if same_word(word, b"group") {
@@ -62,12 +74,13 @@ fn word_token(alloc: Global, word: &[u8]) -> Result<Token, AllocError>
     }
     match keyword(word) {
         Some(found) => Ok(Token::Word(found)),
-        None => Ok(Token::Ident(Str::from_slice(alloc, word)?)),
+        None if word.len() > 65_535 => Ok(Token::LongName),
+        None => Ok(Token::Ident(text_of(alloc, word)?)),
     }
 }
 
 fn word(alloc: Global, text: &[u8], rest: &[u8]) -> Result<Piece, AllocError>
-    requires { length text.now ≡ length rest.now + 1 }
+    requires { (b : ℕ) × (text.now ≡ b ∷ rest.now) × (is_ascii_alphabetic b ≡ true) }
     ensures { IfOk result (λ p. p ≡ spec.word text.now rest.now) }
 {
     let n = word_len(rest) + 1;
@@ -80,14 +93,16 @@ fn number(text: &[u8], rest: &[u8]) -> Piece
 {
     let n = digit_len(rest) + 1;
     let value = digits_value(&text[..n]);
-    if value >= TOO_LARGE {
-        return Piece::Bad(Cause::NumberTooLarge);
-    }
     let after = &text[n..];
-    if begins(b'L', after) || begins(b'l', after) {
-        Piece::Take(Token::Number(value as i64), n + 1)
+    let taken = if begins(b'L', after) || begins(b'l', after) {
+        n + 1
     } else {
-        Piece::Take(Token::Number(value as i64), n)
+        n
+    };
+    if value >= TOO_LARGE {
+        Piece::TooLarge(taken)
+    } else {
+        Piece::Take(Token::Number(value as i64), taken)
     }
 }
 
@@ -97,25 +112,24 @@ fn position(rest: &[u8]) -> Piece
 {
     let n = digit_len(rest);
     if n == 0 {
-        return Piece::Bad(Cause::Token);
+        return Piece::Bad;
     }
     let value = digits_value(&rest[..n]);
     if value >= TOO_LARGE {
-        return Piece::Bad(Cause::NumberTooLarge);
+        return Piece::TooLarge(n + 1);
     }
     Piece::Take(Token::Position(value), n + 1)
 }
 
 /// A literal after its opening quote.
 fn quoted(alloc: Global, rest: &[u8]) -> Result<Piece, AllocError>
+    requires short { length rest.now ≤ 65535 }
+    requires utf8 { is_utf8 rest.now ≡ true }
     ensures { IfOk result (λ p. p ≡ spec.quoted (literal false rest.now)) }
 {
     match literal(alloc, rest) {
-        Ok((text, n)) => Ok(Piece::Take(
-            Token::Literal(Str::from_slice(alloc, text.as_slice())?),
-            n + 1,
-        )),
-        Err(LexFault::Token) => Ok(Piece::Bad(Cause::Token)),
+        Ok((text, n)) => Ok(Piece::Take(Token::Literal(text_of(alloc, text.as_slice())?), n + 1)),
+        Err(LexFault::Token) => Ok(Piece::Bad),
         Err(LexFault::Memory) => Err(AllocError),
     }
 }
@@ -125,12 +139,14 @@ fn symbol(text: &[u8]) -> Piece
 {
     match symbol_at(text) {
         Some((found, n)) => Piece::Take(Token::Symbol(found), n),
-        None => Piece::Bad(Cause::Token),
+        None => Piece::Bad,
     }
 }
 
 /// The piece in front.
 pub fn piece_at(alloc: Global, text: &[u8]) -> Result<Piece, AllocError>
+    requires short { length text.now ≤ 65536 }
+    requires utf8 { begins 39 text.now ≡ true → is_utf8 (drop 1 text.now) ≡ true }
     ensures { IfOk result (λ p. p ≡ spec.piece text.now) }
 {
     let Some((first, rest)) = text.split_first() else {

@@ -2,19 +2,25 @@
 
 ghost use Rattle.std.specs.Prelude.{◌≡◌, ◌≤◌, ◌↔◌, ℕ, List, length, drop, IfOk, MatchResult};
 ghost use Rattle.nova_pig_scan.specs.Tokens as spec;
-ghost use Rattle.nova_pig_scan.specs.Text.{IsTokens, FailsAt};
-ghost use Rattle.nova_pig_scan.specs.declared.piece.Cause.{Cause};
+ghost use Rattle.nova_pig_scan.specs.Text.{IsTokens, FailsAt, OneLexeme, TextsAreSettled};
+ghost use Rattle.nova_pig_scan.specs.declared.scan.Cause.{Cause};
 ghost use Rattle.nova_pig_tree.specs.declared.token.Placed.{Placed};
 
-use crate::piece::{Cause, Piece, piece_at};
+use crate::piece::{Piece, piece_at};
 use nova_pig_tree::Placed;
 use sqlite_items::Items;
 use std::alloc::{AllocError, AllocFailed, Global};
 
+#[derive(Clone, Copy, Debug, PartialEq, Eq)]
+pub enum Cause {
+    Token,
+    NumberTooLarge,
+}
+
 /// Why a text has no tokens.
 #[derive(Clone, Copy, Debug, PartialEq, Eq)]
 pub enum TextFault {
-    At(Cause, usize),
+    At(Cause, u64),
     Memory,
 }
 
@@ -38,30 +44,35 @@ fn text_from(text: &[u8], at: usize) -> &[u8]
 }
 
 /// The tokens of a text.
-pub fn scan_text(alloc: Global, text: &[u8]) -> Result<Items<Placed>, TextFault>
+pub fn scan_text(alloc: Global, text: &str) -> Result<Items<Placed>, TextFault>
+    requires { length text.now ≤ 65536 }
     ensures { spec.Gives (spec.tokens text.now) result }
 {
+    let bytes = text.as_bytes();
     let mut out = Items::new(alloc);
     let mut at = 0;
     loop {
-        match piece_at(alloc, text_from(text, at))? {
+        match piece_at(alloc, text_from(bytes, at))? {
             Piece::End => return Ok(out),
             Piece::Skip(n) => at += n,
             Piece::Take(token, n) => {
                 out.push(Placed {
                     token,
-                    start: at,
-                    end: at + n,
+                    start: at as u64,
+                    end: (at + n) as u64,
                 })?;
                 at += n;
             }
-            Piece::Bad(cause) => return Err(TextFault::At(cause, at)),
+            Piece::TooLarge(_) => return Err(TextFault::At(Cause::NumberTooLarge, at as u64)),
+            Piece::Bad => return Err(TextFault::At(Cause::Token, at as u64)),
         }
     }
 }
 
-/// The tokens of a text, as the relations say.
-pub fn tokens_of(alloc: Global, text: &[u8]) -> Result<Items<Placed>, TextFault>
+/// The tokens of a text of at most 65,536 bytes, or its first fault, each exactly where the
+/// relations say.
+pub fn tokens_of(alloc: Global, text: &str) -> Result<Items<Placed>, TextFault>
+    requires { length text.now ≤ 65536 }
     ensures found { IfOk result (λ ps. IsTokens 0 text.now ps) }
     ensures complete { (ps : List Placed) → IsTokens 0 text.now ps → MatchResult result (λ found. found ≡ ps) (λ e. e ≡ TextFault.Memory) }
     ensures fault { MatchResult result (λ _. Unit {0}) (λ e. (e ≡ TextFault.Memory → ⊥) → (c : Cause) × (place : ℕ) × (e ≡ TextFault.At c place) × FailsAt 0 text.now c place) }
@@ -69,3 +80,13 @@ pub fn tokens_of(alloc: Global, text: &[u8]) -> Result<Items<Placed>, TextFault>
 {
     scan_text(alloc, text)
 }
+
+/// A run of bytes is one token at most, or white space, or a comment.
+pub fn one_lexeme()
+    ensures { OneLexeme }
+{}
+
+/// A text has one list of tokens, or one first fault.
+pub fn texts_are_settled()
+    ensures { TextsAreSettled }
+{}

@@ -48,6 +48,9 @@ pub enum Symbol {
 pub enum Token {
     /// An identifier.
     Ident(Str),
+    /// An identifier of more than 65,535 bytes, which no text value holds. It can only be the
+    /// whole of the longest text, and stands in no statement.
+    LongName,
     Word(Word),
     /// The keyword `GROUP`, and whether it is spelled exactly `group`, as a field is.
     Group(bool),

@@ -8,7 +8,7 @@ use Rattle.nova_pig_tree.specs.declared.token.Token.TheVariants.{Ident, Word, Gr
 use Rattle.nova_pig_tree.specs.declared.token.Placed.{Placed}
 use Rattle.nova_pig_tree.specs.declared.token.Word.TheVariants as w
 use Rattle.nova_pig_tree.specs.declared.token.Symbol.TheVariants as s
-use Rattle.nova_pig_scan.specs.declared.piece.Cause.TheVariants as cause
+use Rattle.nova_pig_scan.specs.declared.scan.Cause.TheVariants as cause
 use Rattle.nova_pig_scan.specs.declared.scan.TextFault.{TextFault}
 use Rattle.nova_pig_scan.specs.declared.scan.TextFault.TheVariants as scan
 use Rattle.nova_pig_scan.specs.Tokens.{tokens, Outcome}

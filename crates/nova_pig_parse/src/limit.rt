@@ -42,7 +42,7 @@ fn nests(token: &Token) -> bool
 }
 
 #[tactic(auto, unfolding(crate::specs::Parse::too_deep))]
-fn too_deep(mut tokens: &[Placed]) -> Option<usize>
+fn too_deep(mut tokens: &[Placed]) -> Option<u64>
     ensures { result ≡ spec.too_deep 0 tokens.entry.now }
 {
     let mut n = 0u32;
@@ -80,7 +80,7 @@ pub fn limit_of(tokens: &[Placed]) -> Option<ParseFault>
         return Some(ParseFault::TooLong);
     }
     if let Some(at) = too_deep(tokens) {
-        return Some(ParseFault::TooDeep(at));
+        return Some(ParseFault::TooDeep { at });
     }
     if count_assigns(tokens) > 256 {
         Some(ParseFault::TooLong)

@@ -4,7 +4,7 @@ ghost use Rattle.std.specs.Prelude.{◌≡◌, ◌≢◌, ◌<◌, ◌≤◌, �
 ghost use Rattle.nova_pig_parse.specs.Parse as spec;
 
 use crate::limit::{count_semicolons, is_semicolon};
-use crate::op::cut_body;
+use crate::statement::cut_body;
 use crate::text::ParseFault;
 use nova_pig_expr::Fault;
 use nova_pig_tree::{Body, Placed, Statement};
@@ -59,7 +59,7 @@ fn is_store(body: &Body) -> bool
     matches!(body, Body::Store { .. })
 }
 
-fn place(cut: &[Placed], len: usize) -> usize
+fn place(cut: &[Placed], len: u64) -> u64
     ensures { result ≡ spec.place len cut.now }
 {
     let Some((first, _)) = cut.split_first() else {
@@ -72,7 +72,7 @@ fn place(cut: &[Placed], len: usize) -> usize
     }
 }
 
-fn end_of(at: usize, mut cut: &[Placed]) -> usize
+fn end_of(at: u64, mut cut: &[Placed]) -> u64
     ensures { result ≡ spec.end_of at cut.entry.now }
 {
     let mut end = at;
@@ -104,19 +104,23 @@ fn statement_of(
     alloc: Global,
     cut: &[Placed],
     is_last: bool,
-    len: usize,
+    len: u64,
 ) -> Result<Statement, ParseFault>
     ensures { spec.Gives (spec.read_cut len is_last cut.now) result }
 {
     match cut_body(alloc, cut) {
         Ok(body) => {
             if is_store(&body) && !is_last {
-                Err(ParseFault::Syntax(place(cut, len)))
+                Err(ParseFault::Syntax {
+                    at: place(cut, len),
+                })
             } else {
                 Ok(spanned(cut, body))
             }
         }
-        Err(Fault::Syntax) => Err(ParseFault::Syntax(place(cut, len))),
+        Err(Fault::Syntax) => Err(ParseFault::Syntax {
+            at: place(cut, len),
+        }),
         Err(Fault::Memory) => Err(ParseFault::NoMemory),
     }
 }
@@ -125,7 +129,7 @@ fn statement_of(
 pub fn statements_of(
     alloc: Global,
     tokens: &[Placed],
-    len: usize,
+    len: u64,
 ) -> Result<Items<Statement>, ParseFault>
     ensures { spec.Gives (spec.statements len (spec.cuts tokens.now)) result }
 {

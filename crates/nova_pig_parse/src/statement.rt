@@ -6,7 +6,7 @@ ghost use Rattle.nova_pig_parse.specs.Reads as spec;
 ghost use Rattle.nova_pig_parse.specs.Statement.{IsCut};
 ghost use Rattle.nova_pig_tree.specs.declared.statement.Body.{Body};
 
-use crate::part::{columns_at, items_at, name_at, names_at};
+use crate::item::{columns_at, items_at, name_at, names_at};
 use nova_pig_expr::{Fault, Parser};
 use nova_pig_tree::{Body, Op, Placed, Str, Symbol, Token, Word};
 use std::alloc::Global;
@@ -20,7 +20,7 @@ fn by_at(alloc: Global, parser: &mut Parser<'_>) -> Result<Str, Fault>
     let Some(Token::Word(Word::By)) = parser.take() else {
         return Err(Fault::Syntax);
     };
-    Ok(Str::from_slice(alloc, name.bytes())?)
+    Ok(name.copy(alloc)?)
 }
 
 fn generate_at(alloc: Global, parser: &mut Parser<'_>) -> Result<Str, Fault>
@@ -32,7 +32,7 @@ fn generate_at(alloc: Global, parser: &mut Parser<'_>) -> Result<Str, Fault>
     let Some(Token::Word(Word::Generate)) = parser.take() else {
         return Err(Fault::Syntax);
     };
-    Ok(Str::from_slice(alloc, name.bytes())?)
+    Ok(name.copy(alloc)?)
 }
 
 fn filter_at(alloc: Global, parser: &mut Parser<'_>) -> Result<Op, Fault>
@@ -96,7 +96,7 @@ fn load_at(alloc: Global, parser: &mut Parser<'_>) -> Result<Str, Fault>
     let Some(Token::Literal(text)) = parser.take() else {
         return Err(Fault::Syntax);
     };
-    Ok(Str::from_slice(alloc, text.bytes())?)
+    Ok(text.copy(alloc)?)
 }
 
 pub fn op_at(alloc: Global, parser: &mut Parser<'_>) -> Result<Op, Fault>
@@ -149,8 +149,8 @@ fn store_at(alloc: Global, parser: &mut Parser<'_>) -> Result<Body, Fault>
     let Some(Token::Literal(channel)) = parser.take() else {
         return Err(Fault::Syntax);
     };
-    let alias = Str::from_slice(alloc, alias.bytes())?;
-    let channel = Str::from_slice(alloc, channel.bytes())?;
+    let alias = alias.copy(alloc)?;
+    let channel = channel.copy(alloc)?;
     ended(parser, Body::Store { alias, channel })
 }
 
@@ -159,7 +159,7 @@ fn cut_at(alloc: Global, parser: &mut Parser<'_>) -> Result<Body, Fault>
 {
     match parser.take() {
         Some(Token::Ident(name)) => {
-            let alias = Str::from_slice(alloc, name.bytes())?;
+            let alias = name.copy(alloc)?;
             define_at(alloc, parser, alias)
         }
         Some(Token::Word(Word::Store)) => store_at(alloc, parser),

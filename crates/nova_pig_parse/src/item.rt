@@ -31,7 +31,7 @@ pub fn name_at(alloc: Global, parser: &mut Parser<'_>) -> Result<Str, Fault>
     let Some(Token::Ident(name)) = parser.take() else {
         return Err(Fault::Syntax);
     };
-    Ok(Str::from_slice(alloc, name.bytes())?)
+    Ok(name.copy(alloc)?)
 }
 
 fn kind_at(parser: &mut Parser<'_>) -> Result<Option<Kind>, Fault>
@@ -60,7 +60,7 @@ fn label_at(alloc: Global, parser: &mut Parser<'_>) -> Result<(Option<Str>, Opti
     let Some(Token::Ident(name)) = parser.take() else {
         return Err(Fault::Syntax);
     };
-    let name = Str::from_slice(alloc, name.bytes())?;
+    let name = name.copy(alloc)?;
     let kind = kind_at(parser)?;
     Ok((Some(name), kind))
 }

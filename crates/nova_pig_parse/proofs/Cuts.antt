@@ -6,7 +6,8 @@ use Rattle.nova_pig_tree.specs.declared.statement.Statement.{Statement}
 use Rattle.nova_pig_tree.specs.declared.token.Placed.{Placed}
 use Rattle.nova_pig_parse.specs.declared.text.ParseFault.{ParseFault}
 use Rattle.nova_pig_parse.specs.declared.text.ParseFault.TheVariants as fault
-use Rattle.nova_pig_parse.specs.Parse.{is_semicolon, onto_first, cuts, before_semicolon, too_deep, parts, nests, is_none, statements, Statements, ahead, and_more, read_cut, Gives}
+use Rattle.nova_pig_parse.specs.Limits.{is_semicolon}
+use Rattle.nova_pig_parse.specs.Parse.{onto_first, cuts, before_semicolon, is_none, statements, Statements, ahead, and_more, read_cut, Gives}
 
 some_by : (t : Bool) (p : Placed) (ps : List Placed) → (before_semicolon ps < length ps → cuts ps ≡ take (before_semicolon ps + 1) ps ∷ cuts (drop (before_semicolon ps + 1) ps))
     → (if t then 0 else 1 + before_semicolon ps) < suc (length ps)

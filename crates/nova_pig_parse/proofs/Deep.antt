@@ -3,8 +3,9 @@ use Rattle.std.proofs.Common.{◌≡◌, ℕ, zero, suc, ◌+◌, ◌<◌, ◌�
 use Rattle.std.proofs.lemmas.Grind.{common_steps}
 use Rattle.std.specs.Prelude.{if◌then◌else◌, ◌==◌, filter, flat_map}
 use Rattle.nova_pig_tree.specs.declared.token.Placed.{Placed}
-use Rattle.nova_pig_parse.specs.Parse.{too_deep, parts, nests}
-use Rattle.nova_pig_parse.specs.Deep.{onto_piece, pieces, beyond, first_start, first_deep}
+use Rattle.nova_pig_parse.specs.Parse.{too_deep}
+use Rattle.nova_pig_parse.specs.Limits.{parts, nests}
+use Rattle.nova_pig_parse.specs.Limits.{onto_piece, pieces, beyond, first_start, first_deep}
 
 -- what is too deep where so many more may nest in the first piece
 deep : ℕ → List (List Placed) → List Placed

@@ -1,9 +1,3 @@
 pub mod Cuts
 pub mod Deep
-pub mod Examples
-pub mod Lists
-pub mod Shrink
-pub mod Listing
-pub mod Parts
-pub mod Cut
-pub mod Whole
+pub mod Scripts

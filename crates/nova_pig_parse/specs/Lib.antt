@@ -1,4 +1,3 @@
+pub mod Limits
+pub mod Script
 pub mod Parse
-pub mod Deep
-pub mod Reads
-pub mod Statement

@@ -12,36 +12,11 @@ use Rattle.nova_pig_scan.specs.declared.scan.Cause.TheVariants as cause
 use Rattle.nova_pig_scan.specs.declared.scan.TextFault.{TextFault}
 use Rattle.nova_pig_scan.specs.declared.scan.TextFault.TheVariants as scan
 use Rattle.nova_pig_scan.specs.Tokens.{tokens, Outcome}
-use Rattle.nova_pig_parse.specs.Reads.{body_of}
+use Rattle.nova_pig_parse.specs.Limits.{is_semicolon, semicolons, assigns, first_deep, parts, nests}
+use Rattle.nova_pig_parse.specs.Script.{tokens_of, place, spanned}
+use Rattle.nova_pig_statement.specs.Reads.{body_of}
 use Rattle.nova_pig_parse.specs.declared.text.ParseFault.{ParseFault}
 use Rattle.nova_pig_parse.specs.declared.text.ParseFault.TheVariants as fault
-
-abbrev pub is_semicolon : Token → Bool
-is_semicolon (Symbol s.Semicolon) = true
-is_semicolon _ = false
-
-abbrev pub is_assign : Token → Bool
-is_assign (Symbol s.Assign) = true
-is_assign _ = false
-
--- a piece ends at a comma or a `;`
-abbrev pub parts : Token → Bool
-parts (Symbol s.Semicolon) = true
-parts (Symbol s.Comma) = true
-parts _ = false
-
--- ( ? + - *, a comparison, NOT, AND or OR
-abbrev pub nests : Token → Bool
-nests (Symbol s.Open) = true
-nests (Symbol s.Question) = true
-nests (Symbol s.Plus) = true
-nests (Symbol s.Minus) = true
-nests (Symbol s.Star) = true
-nests (Symbol (s.Compare op)) = true
-nests (Word w.Not) = true
-nests (Word w.And) = true
-nests (Word w.Or) = true
-nests _ = false
 
 -- the place of the first 65th token of a piece that nests, where so many stand in the piece before
 unfoldable pub too_deep : ℕ → List Placed → Option ℕ
@@ -57,8 +32,8 @@ deep_or None other = other
 -- more than 257 `;`, the first place that is too deep, more than 256 `=`
 abbrev pub limit : List Placed → Option ParseFault
 limit ps =
-    if nat_lt 257 (count_by (λ p. is_semicolon p.token) ps) then Some fault.TooLong else
-    deep_or (too_deep 0 ps) (if nat_lt 256 (count_by (λ p. is_assign p.token) ps) then Some fault.TooLong else None)
+    if nat_lt 257 (semicolons ps) then Some fault.TooLong else
+    deep_or (first_deep ps) (if nat_lt 256 (assigns ps) then Some fault.TooLong else None)
 
 abbrev pub onto_first : Placed → List (List Placed) → List (List Placed)
 onto_first p [] = (p ∷ []) ∷ []
@@ -69,11 +44,6 @@ unfoldable pub cuts : List Placed → List (List Placed)
 cuts [] = []
 cuts (p ∷ ps) = if is_semicolon p.token then (p ∷ []) ∷ cuts ps else onto_first p (cuts ps)
 
--- the place of a cut that is no statement: its first token, or the text's length where it has no `;`
-abbrev pub place : ℕ → List Placed → ℕ
-place len [] = len
-place len (p ∷ ps) = if nat_lt 0 (count_by (λ q. is_semicolon q.token) (p ∷ ps)) then p.start else len
-
 abbrev pub is_store : Body → Bool
 is_store (body.Store a c) = true
 is_store _ = false
@@ -83,17 +53,12 @@ abbrev pub kept : Bool → Option Body → Option Body
 kept is_last (Some b) = if is_store b && not is_last then None else Some b
 kept is_last None = None
 
--- where the last token ends
-abbrev pub end_of : ℕ → List Placed → ℕ
-end_of at [] = at
-end_of at (p ∷ ps) = end_of p.end ps
-
-abbrev pub spanned : List Placed → Body → Statement
-spanned [] b = record { start = 0; end = 0; body = b }
-spanned (p ∷ ps) b = record { start = p.start; end = end_of p.end ps; body = b }
+abbrev pub answer_of : ℕ → List Placed → Option Body → Result Statement ParseFault
+answer_of len cut (Some b) = Ok (spanned cut b)
+answer_of len cut None = Err (fault.Syntax (place len cut))
 
 abbrev pub read_cut : ℕ → Bool → List Placed → Result Statement ParseFault
-read_cut len is_last cut = elim (kept is_last (body_of (map (λ p. p.token) cut))) [ Some b ↦ Ok (spanned cut b) | None ↦ Err (fault.Syntax (place len cut)) ]
+read_cut len is_last cut = answer_of len cut (kept is_last (body_of (tokens_of cut)))
 
 abbrev pub Statements : Type 0
 Statements = Result (List Statement) ParseFault

@@ -1,31 +1,32 @@
 //! Limits on tokens.
 
-ghost use Rattle.std.specs.Prelude.{◌≡◌, count_by};
+ghost use Rattle.std.specs.Prelude.{◌≡◌};
+ghost use Rattle.nova_pig_parse.specs.Limits as limits;
 ghost use Rattle.nova_pig_parse.specs.Parse as spec;
 
 use crate::text::ParseFault;
 use nova_pig_tree::{Placed, Symbol, Token, Word};
 
 pub fn is_semicolon(token: &Token) -> bool
-    ensures { result ≡ spec.is_semicolon token.now }
+    ensures { result ≡ limits.is_semicolon token.now }
 {
     matches!(token, Token::Symbol(Symbol::Semicolon))
 }
 
 fn is_assign(token: &Token) -> bool
-    ensures { result ≡ spec.is_assign token.now }
+    ensures { result ≡ limits.is_assign token.now }
 {
     matches!(token, Token::Symbol(Symbol::Assign))
 }
 
 fn parts(token: &Token) -> bool
-    ensures { result ≡ spec.parts token.now }
+    ensures { result ≡ limits.parts token.now }
 {
     matches!(token, Token::Symbol(Symbol::Semicolon | Symbol::Comma))
 }
 
 fn nests(token: &Token) -> bool
-    ensures { result ≡ spec.nests token.now }
+    ensures { result ≡ limits.nests token.now }
 {
     match token {
         Token::Symbol(
@@ -43,7 +44,7 @@ fn nests(token: &Token) -> bool
 
 #[tactic(auto, unfolding(crate::specs::Parse::too_deep))]
 fn too_deep(mut tokens: &[Placed]) -> Option<u64>
-    ensures { result ≡ spec.too_deep 0 tokens.entry.now }
+    ensures { result ≡ limits.first_deep tokens.entry.now }
 {
     let mut n = 0u32;
     while let Some((p, rest)) = tokens.split_first() {
@@ -61,13 +62,13 @@ fn too_deep(mut tokens: &[Placed]) -> Option<u64>
 }
 
 pub fn count_semicolons(tokens: &[Placed]) -> usize
-    ensures { result ≡ count_by (λ p. spec.is_semicolon p.token) tokens.now }
+    ensures { result ≡ limits.semicolons tokens.now }
 {
     tokens.iter().filter(|p| is_semicolon(&p.token)).count()
 }
 
 fn count_assigns(tokens: &[Placed]) -> usize
-    ensures { result ≡ count_by (λ p. spec.is_assign p.token) tokens.now }
+    ensures { result ≡ limits.assigns tokens.now }
 {
     tokens.iter().filter(|p| is_assign(&p.token)).count()
 }

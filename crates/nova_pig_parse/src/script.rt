@@ -1,12 +1,13 @@
 //! Statements, cut by cut.
 
 ghost use Rattle.std.specs.Prelude.{◌≡◌, ◌≢◌, ◌<◌, ◌≤◌, ◌+◌, [], length, false, true};
+ghost use Rattle.nova_pig_parse.specs.Script as script;
 ghost use Rattle.nova_pig_parse.specs.Parse as spec;
 
 use crate::limit::{count_semicolons, is_semicolon};
-use crate::statement::cut_body;
 use crate::text::ParseFault;
 use nova_pig_expr::Fault;
+use nova_pig_statement::cut_body;
 use nova_pig_tree::{Body, Placed, Statement};
 use sqlite_items::Items;
 use std::alloc::Global;
@@ -60,7 +61,7 @@ fn is_store(body: &Body) -> bool
 }
 
 fn place(cut: &[Placed], len: u64) -> u64
-    ensures { result ≡ spec.place len cut.now }
+    ensures { result ≡ script.place len cut.now }
 {
     let Some((first, _)) = cut.split_first() else {
         return len;
@@ -73,7 +74,7 @@ fn place(cut: &[Placed], len: u64) -> u64
 }
 
 fn end_of(at: u64, mut cut: &[Placed]) -> u64
-    ensures { result ≡ spec.end_of at cut.entry.now }
+    ensures { result ≡ script.end_of at cut.entry.now }
 {
     let mut end = at;
     while let Some((p, rest)) = cut.split_first() {
@@ -84,7 +85,7 @@ fn end_of(at: u64, mut cut: &[Placed]) -> u64
 }
 
 fn spanned(cut: &[Placed], body: Body) -> Statement
-    ensures { result ≡ spec.spanned cut.now body }
+    ensures { result ≡ script.spanned cut.now body }
 {
     let Some((first, rest)) = cut.split_first() else {
         return Statement {
@@ -94,8 +95,8 @@ fn spanned(cut: &[Placed], body: Body) -> Statement
         };
     };
     Statement {
-        start: first.start as u64,
-        end: end_of(first.end, rest) as u64,
+        start: first.start,
+        end: end_of(first.end, rest),
         body,
     }
 }

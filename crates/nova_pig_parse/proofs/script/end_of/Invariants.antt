@@ -1,5 +1,5 @@
 use Rattle.std.proofs.Common.{◌≡◌, length}
-use Rattle.nova_pig_parse.specs.Parse.{end_of}
+use Rattle.nova_pig_parse.specs.Script.{end_of}
 use Rattle.nova_pig_parse.proofs.script.end_of.Given as goal
 
 abbrev pub invariant-loop-p : goal.invariant-loop-p

@@ -6,7 +6,7 @@ use Rattle.nova_pig_tree.specs.declared.token.Symbol.TheVariants as s
 use Rattle.nova_pig_expr.specs.declared.fault.Fault.{Fault}
 use Rattle.nova_pig_expr.specs.declared.fault.Fault.TheVariants.{Syntax, Memory}
 use Rattle.nova_pig_expr.specs.Reading.{Reading, Reader, and_then, Answers}
-use Rattle.nova_pig_parse.specs.Reads.{more_by, more, listed, ahead, begins_comma}
+use Rattle.nova_pig_statement.specs.Reads.{more_by, more, listed, ahead, begins_comma}
 
 -- a reader that adds no tokens
 abbrev pub NoLonger : {A : Type 0} → Reader A → Type 0

@@ -17,12 +17,12 @@ use Rattle.nova_pig_expr.specs.Reading.{Reading, Reader, and_then, read, At, fie
 use Rattle.nova_pig_expr.proofs.Steps.{bound, same_rest, same_value}
 use Rattle.nova_pig_expr.proofs.Sound.{read-sound, field_at-sound}
 use Rattle.nova_pig_expr.proofs.Complete.{read-complete, field-read, Stops}
-use Rattle.nova_pig_parse.specs.Reads.{listed, kind_of, some_kind, kind_at, label_at, flatten_at, value_at, item_at, name_at, columns_at, shut, by_at, generate_at, filter_at, foreach_at, op_at, begins_comma}
-use Rattle.nova_pig_parse.specs.Statement as st
-use Rattle.nova_pig_parse.specs.Statement.{Listed, IsLabel, IsItem, IsColumns, IsName, IsOp, Ended}
-use Rattle.nova_pig_parse.proofs.Lists.{NoLonger}
-use Rattle.nova_pig_parse.proofs.Shrink.{item-no_longer, field-no_longer, name-no_longer}
-use Rattle.nova_pig_parse.proofs.Listing.{Sound, Complete, joined, listed-sound, listed-complete}
+use Rattle.nova_pig_statement.specs.Reads.{listed, kind_of, some_kind, kind_at, label_at, flatten_at, value_at, item_at, name_at, columns_at, shut, by_at, generate_at, filter_at, foreach_at, op_at, begins_comma}
+use Rattle.nova_pig_statement.specs.Statement as st
+use Rattle.nova_pig_statement.specs.Statement.{Listed, IsLabel, IsItem, IsColumns, IsName, IsOp, Ended}
+use Rattle.nova_pig_statement.proofs.Lists.{NoLonger}
+use Rattle.nova_pig_statement.proofs.Shrink.{item-no_longer, field-no_longer, name-no_longer}
+use Rattle.nova_pig_statement.proofs.Listing.{Sound, Complete, joined, listed-sound, listed-complete}
 
 -- an expression begins with no `*` and no FLATTEN
 abbrev starts : Token → Bool

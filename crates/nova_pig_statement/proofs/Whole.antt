@@ -17,20 +17,20 @@ use Rattle.nova_pig_expr.specs.Reading.{Reading, Reader, and_then, read, At, fie
 use Rattle.nova_pig_expr.proofs.Steps.{bound, same_rest, same_value}
 use Rattle.nova_pig_expr.proofs.Sound.{read-sound, field_at-sound}
 use Rattle.nova_pig_expr.proofs.Complete.{read-complete, field-read, Stops}
-use Rattle.nova_pig_parse.specs.Reads.{listed, kind_of, some_kind, kind_at, label_at, flatten_at, value_at, item_at, name_at, columns_at, shut, by_at, generate_at, filter_at, foreach_at, op_at, begins_comma, group_at, join_at, union_at, two, comma_at, ended, define_at, store_at, cut_at, body_of, all_of, text_at}
-use Rattle.nova_pig_parse.specs.Statement as st
-use Rattle.nova_pig_parse.specs.Statement.{Listed, IsLabel, IsItem, IsColumns, IsName, IsOp, Ended, IsCut}
+use Rattle.nova_pig_statement.specs.Reads.{listed, kind_of, some_kind, kind_at, label_at, flatten_at, value_at, item_at, name_at, columns_at, shut, by_at, generate_at, filter_at, foreach_at, op_at, begins_comma, group_at, join_at, union_at, two, comma_at, ended, define_at, store_at, cut_at, body_of, all_of, text_at}
+use Rattle.nova_pig_statement.specs.Statement as st
+use Rattle.nova_pig_statement.specs.Statement.{Listed, IsLabel, IsItem, IsColumns, IsName, IsOp, Ended, IsStatement}
 use Rattle.nova_pig_tree.specs.declared.statement.Body.{Body}
 use Rattle.nova_pig_tree.specs.declared.statement.Body.TheVariants as body
-use Rattle.nova_pig_parse.proofs.Parts.{ended-stops, items-complete, items-sound, foreach-complete}
+use Rattle.nova_pig_statement.proofs.Parts.{ended-stops, items-complete, items-sound, foreach-complete}
 use Rattle.std.proofs.Common.{Result, Ok, Err, IfOk, MatchResult}
 use Rattle.nova_pig_expr.specs.declared.fault.Fault.{Fault}
 use Rattle.nova_pig_expr.specs.declared.fault.Fault.TheVariants.{Syntax, Memory}
-use Rattle.nova_pig_parse.specs.Reads.{IsBodyOf}
-use Rattle.nova_pig_parse.proofs.Cut.{cut-complete}
-use Rattle.nova_pig_parse.proofs.Lists.{NoLonger}
-use Rattle.nova_pig_parse.proofs.Shrink.{item-no_longer, field-no_longer, name-no_longer}
-use Rattle.nova_pig_parse.proofs.Listing.{Sound, Complete, joined, listed-sound, listed-complete}
+use Rattle.nova_pig_statement.specs.Reads.{IsBodyOf}
+use Rattle.nova_pig_statement.proofs.Cut.{cut-complete}
+use Rattle.nova_pig_statement.proofs.Lists.{NoLonger}
+use Rattle.nova_pig_statement.proofs.Shrink.{item-no_longer, field-no_longer, name-no_longer}
+use Rattle.nova_pig_statement.proofs.Listing.{Sound, Complete, joined, listed-sound, listed-complete}
 
 column-other : (ts : List Token) (fs : List Field) (rest : List Token) → and_then (field_at ts) (λ a us. Some (a ∷ [], us)) ≡ Some (fs, rest)
     → (front : List Token) × (ts ≡ front ++ rest) × IsColumns front fs
@@ -136,10 +136,10 @@ ended-sound : {A : Type 0} (x : A) (ts : List Token) (y : A) (rest : List Token)
 ended-sound x (Symbol s.Semicolon ∷ ts) y rest eq = (ap (λ us. Symbol s.Semicolon ∷ us) (same_rest eq), same_value eq)
 ended-sound x _ y rest eq = absurd cc
 
-cut-along : {ts us : List Token} {x y : Body} → IsCut ts x → ts ≡ us → x ≡ y → IsCut us y
-cut-along {us = us} {x = x} d is eq = subst (λ z. IsCut us z) eq (subst (λ vs. IsCut vs x) is d)
+cut-along : {ts us : List Token} {x y : Body} → IsStatement ts x → ts ≡ us → x ≡ y → IsStatement us y
+cut-along {us = us} {x = x} d is eq = subst (λ z. IsStatement us z) eq (subst (λ vs. IsStatement vs x) is d)
 
-read-cut : (cut : List Token) (b : Body) → cut_at cut ≡ Some (b, []) → IsCut cut b
+read-cut : (cut : List Token) (b : Body) → cut_at cut ≡ Some (b, []) → IsStatement cut b
 read-cut (Ident a ∷ Symbol s.Assign ∷ ts) b eq =
     let (o, mid, e1, then) = bound (op_at ts) (λ o. ended (body.Define a o)) eq in
     let (f, f-is, d) = op-sound ts o mid e1 in
@@ -150,14 +150,14 @@ read-cut (Word w.Store ∷ Ident a ∷ Word w.Into ∷ Literal c ∷ ts) b eq =
     cut-along st.store (ap (λ us. Word w.Store ∷ Ident a ∷ Word w.Into ∷ Literal c ∷ us) (sym ts-is)) same
 read-cut _ b eq = absurd cc
 
-pub cut-sound : (cut : List Token) (b : Body) → body_of cut ≡ Some b → IsCut cut b
+pub cut-sound : (cut : List Token) (b : Body) → body_of cut ≡ Some b → IsStatement cut b
 cut-sound cut b eq = read-cut cut b (whole-is (cut_at cut) b eq)
 
-pub found_cut : (cut : List Token) (r : Result Body Fault) → IsBodyOf cut r → IfOk r (λ b. IsCut cut b)
+pub found_cut : (cut : List Token) (r : Result Body Fault) → IsBodyOf cut r → IfOk r (λ b. IsStatement cut b)
 found_cut cut (Ok b) e = cut-sound cut b e
 found_cut cut (Err f) e = tt
 
-pub given_cut : (cut : List Token) (r : Result Body Fault) → IsBodyOf cut r → (b : Body) → IsCut cut b → MatchResult r (λ found. found ≡ b) (λ e. e ≡ Memory)
+pub given_cut : (cut : List Token) (r : Result Body Fault) → IsBodyOf cut r → (b : Body) → IsStatement cut b → MatchResult r (λ found. found ≡ b) (λ e. e ≡ Memory)
 given_cut cut (Ok a) e b d = let k = sym e ∙ cut-complete d in cc
 given_cut cut (Err Syntax) e b d = let k = sym e ∙ cut-complete d in absurd cc
 given_cut cut (Err Memory) e b d = refl

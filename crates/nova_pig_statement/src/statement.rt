@@ -2,8 +2,8 @@
 
 ghost use Rattle.std.specs.Prelude.{◌≡◌, ◌<◌, length, map, OnOk, IfOk, MatchResult};
 ghost use Rattle.nova_pig_expr.specs.Reading.{Answers};
-ghost use Rattle.nova_pig_parse.specs.Reads as spec;
-ghost use Rattle.nova_pig_parse.specs.Statement.{IsCut};
+ghost use Rattle.nova_pig_statement.specs.Reads as spec;
+ghost use Rattle.nova_pig_statement.specs.Statement.{IsStatement};
 ghost use Rattle.nova_pig_tree.specs.declared.statement.Body.{Body};
 
 use crate::item::{columns_at, items_at, name_at, names_at};
@@ -181,8 +181,8 @@ pub fn cut_body(alloc: Global, cut: &[Placed]) -> Result<Body, Fault>
 
 /// The statement that a whole cut is, as the grammar says.
 pub fn statement_body(alloc: Global, cut: &[Placed]) -> Result<Body, Fault>
-    ensures sound { IfOk result (λ b. IsCut (map (λ q. q.token) cut.now) b) }
-    ensures complete { (b : Body) → IsCut (map (λ q. q.token) cut.now) b → MatchResult result (λ found. found ≡ b) (λ e. e ≡ Fault.Memory) }
+    ensures sound { IfOk result (λ b. IsStatement (map (λ q. q.token) cut.now) b) }
+    ensures complete { (b : Body) → IsStatement (map (λ q. q.token) cut.now) b → MatchResult result (λ found. found ≡ b) (λ e. e ≡ Fault.Memory) }
 {
     cut_body(alloc, cut)
 }

@@ -5,9 +5,9 @@ use Rattle.nova_pig_tree.specs.declared.token.Token.TheVariants.{Ident, Word, Gr
 use Rattle.nova_pig_tree.specs.declared.token.Symbol.TheVariants as s
 use Rattle.nova_pig_expr.specs.Reading.{Reading, Reader, and_then}
 use Rattle.nova_pig_expr.proofs.Steps.{bound, same_rest, same_value}
-use Rattle.nova_pig_parse.specs.Reads.{more_by, more, listed, begins_comma}
-use Rattle.nova_pig_parse.specs.Statement.{Tail, none, next, Listed, begin}
-use Rattle.nova_pig_parse.proofs.Lists.{NoLonger, more-comma, more-stop}
+use Rattle.nova_pig_statement.specs.Reads.{more_by, more, listed, begins_comma}
+use Rattle.nova_pig_statement.specs.Statement.{Tail, none, next, Listed, begin}
+use Rattle.nova_pig_statement.proofs.Lists.{NoLonger, more-comma, more-stop}
 
 abbrev pub Sound : {A : Type 0} → Reader A → (List Token → A → Type 0) → Type 0
 Sound {A} r R = (ts : List Token) (x : A) (rest : List Token) → r ts ≡ Some (x, rest) → (front : List Token) × (ts ≡ front ++ rest) × R front x

@@ -17,15 +17,15 @@ use Rattle.nova_pig_expr.specs.Reading.{Reading, Reader, and_then, read, At, fie
 use Rattle.nova_pig_expr.proofs.Steps.{bound, same_rest, same_value}
 use Rattle.nova_pig_expr.proofs.Sound.{read-sound, field_at-sound}
 use Rattle.nova_pig_expr.proofs.Complete.{read-complete, field-read, Stops}
-use Rattle.nova_pig_parse.specs.Reads.{listed, kind_of, some_kind, kind_at, label_at, flatten_at, value_at, item_at, name_at, columns_at, shut, by_at, generate_at, filter_at, foreach_at, op_at, begins_comma, group_at, join_at, union_at, two, comma_at, ended, define_at, store_at, cut_at, body_of, all_of, text_at}
-use Rattle.nova_pig_parse.specs.Statement as st
-use Rattle.nova_pig_parse.specs.Statement.{Listed, IsLabel, IsItem, IsColumns, IsName, IsOp, Ended, IsCut}
+use Rattle.nova_pig_statement.specs.Reads.{listed, kind_of, some_kind, kind_at, label_at, flatten_at, value_at, item_at, name_at, columns_at, shut, by_at, generate_at, filter_at, foreach_at, op_at, begins_comma, group_at, join_at, union_at, two, comma_at, ended, define_at, store_at, cut_at, body_of, all_of, text_at}
+use Rattle.nova_pig_statement.specs.Statement as st
+use Rattle.nova_pig_statement.specs.Statement.{Listed, IsLabel, IsItem, IsColumns, IsName, IsOp, Ended, IsStatement}
 use Rattle.nova_pig_tree.specs.declared.statement.Body.{Body}
 use Rattle.nova_pig_tree.specs.declared.statement.Body.TheVariants as body
-use Rattle.nova_pig_parse.proofs.Parts.{ended-stops, items-complete, items-sound, foreach-complete, filter-complete}
-use Rattle.nova_pig_parse.proofs.Lists.{NoLonger}
-use Rattle.nova_pig_parse.proofs.Shrink.{item-no_longer, field-no_longer, name-no_longer}
-use Rattle.nova_pig_parse.proofs.Listing.{Sound, Complete, joined, listed-sound, listed-complete}
+use Rattle.nova_pig_statement.proofs.Parts.{ended-stops, items-complete, items-sound, foreach-complete, filter-complete}
+use Rattle.nova_pig_statement.proofs.Lists.{NoLonger}
+use Rattle.nova_pig_statement.proofs.Shrink.{item-no_longer, field-no_longer, name-no_longer}
+use Rattle.nova_pig_statement.proofs.Listing.{Sound, Complete, joined, listed-sound, listed-complete}
 
 primary-stops : (rest : List Token) → Ended rest → Stops g.Primary rest
 primary-stops [] h = absurd h
@@ -70,12 +70,12 @@ op-complete (st.join {a = a} {b = b} {ts = ts} {us = us} {fs = fs} {gs = gs} d d
 op-complete (st.union d) rest =
     ap (λ r. and_then r two) (listed-complete name_at IsName Ended name-no_longer name-complete (λ ts. refl) d (Symbol s.Semicolon ∷ rest) refl refl)
 
-pub cut-complete : {cut : List Token} {b : Body} → IsCut cut b → body_of cut ≡ Some b
+pub cut-complete : {cut : List Token} {b : Body} → IsStatement cut b → body_of cut ≡ Some b
 cut-complete (st.define {a = a} {o = o} d) = ap (λ r. all_of (and_then r (λ o. ended (body.Define a o)))) (op-complete d [])
 cut-complete st.store = refl
 
 -- a cut is one statement
-pub one_body : {cut : List Token} {a b : Body} → IsCut cut a → IsCut cut b → a ≡ b
+pub one_body : {cut : List Token} {a b : Body} → IsStatement cut a → IsStatement cut b → a ≡ b
 one_body d d' = same (sym (cut-complete d) ∙ cut-complete d')
   where
     same : {a b : Body} → Some a ≡ Some b → a ≡ b

@@ -2,7 +2,7 @@
 
 ghost use Rattle.std.specs.Prelude.{◌≡◌, ◌<◌, length, OnOk};
 ghost use Rattle.nova_pig_expr.specs.Reading.{Answers, field_at};
-ghost use Rattle.nova_pig_parse.specs.Reads as spec;
+ghost use Rattle.nova_pig_statement.specs.Reads as spec;
 
 use nova_pig_expr::{Fault, Parser};
 use nova_pig_tree::{Field, Item, Kind, Str, Symbol, Token, Word};

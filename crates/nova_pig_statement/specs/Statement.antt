@@ -14,7 +14,7 @@ use Rattle.nova_pig_tree.specs.declared.token.Token.TheVariants.{Ident, Word, Gr
 use Rattle.nova_pig_tree.specs.declared.token.Word.TheVariants as w
 use Rattle.nova_pig_tree.specs.declared.token.Symbol.TheVariants as s
 use Rattle.nova_pig_expr.specs.Grammar.{Derives, IsField, whole}
-use Rattle.nova_pig_parse.specs.Reads.{kind_of}
+use Rattle.nova_pig_statement.specs.Reads.{kind_of}
 
 -- { "," one }
 pub data Tail {A : Type 0} (One : List Token → A → Type 0) : List Token → List A → Type 0 where
@@ -63,7 +63,11 @@ abbrev pub Ended : List Token → Type 0
 Ended [] = ⊥
 Ended (t ∷ ts) = ends t ≡ true
 
--- a whole cut with its `;`
-pub data IsCut : List Token → Body → Type 0 where
-  define : {a : List ℕ} {ts : List Token} {o : Op} → IsOp ts o → IsCut (Ident a ∷ Symbol s.Assign ∷ ts ++ Symbol s.Semicolon ∷ []) (body.Define a o)
-  store : {a c : List ℕ} → IsCut (Word w.Store ∷ Ident a ∷ Word w.Into ∷ Literal c ∷ Symbol s.Semicolon ∷ []) (body.Store a c)
+abbrev pub is_semicolon : Token → Bool
+is_semicolon (Symbol s.Semicolon) = true
+is_semicolon _ = false
+
+-- a statement with its `;`
+pub data IsStatement : List Token → Body → Type 0 where
+  define : {a : List ℕ} {ts : List Token} {o : Op} → IsOp ts o → IsStatement (Ident a ∷ Symbol s.Assign ∷ ts ++ Symbol s.Semicolon ∷ []) (body.Define a o)
+  store : {a c : List ℕ} → IsStatement (Word w.Store ∷ Ident a ∷ Word w.Into ∷ Literal c ∷ Symbol s.Semicolon ∷ []) (body.Store a c)

@@ -1,0 +1,7 @@
+//! Statements of scripts, each read from its own tokens.
+#![tactic(auto)]
+
+mod item;
+mod statement;
+
+pub use statement::{cut_body, statement_body};

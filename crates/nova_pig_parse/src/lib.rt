@@ -5,4 +5,4 @@ mod limit;
 mod script;
 mod text;
 
-pub use text::{ParseFault, parse};
+pub use text::{ParseFault, parse, texts_are_settled};

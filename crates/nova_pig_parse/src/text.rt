@@ -1,6 +1,9 @@
 //! The script of a text.
 
-ghost use Rattle.std.specs.Prelude.{◌≡◌};
+ghost use Rattle.std.specs.Prelude.{◌≡◌, List, IfOk, IfErr, MatchResult};
+ghost use Rattle.nova_pig_tree.specs.declared.statement.Statement.{Statement};
+ghost use Rattle.nova_pig_parse.specs.declared.text.ParseFault.{ParseFault};
+ghost use Rattle.nova_pig_parse.specs.Script.{IsScriptOf, IsFaultOf, TextsAreSettled};
 ghost use Rattle.nova_pig_parse.specs.Parse as spec;
 
 use crate::limit::limit_of;
@@ -57,9 +60,23 @@ fn script_of(alloc: Global, text: &str) -> Result<Script, ParseFault>
     }
 }
 
-/// The script that the text is.
+/// The script that the text is, or why it is none. The first fault is answered: the text's
+/// length, then the first place at which no token begins or a number is too large, then the
+/// number of `;`, the depth, the number of `=`, and the first cut that is no statement.
 pub fn parse(alloc: Global, text: &str) -> Result<Script, ParseFault>
-    ensures { spec.Gives (spec.parse_of text.now) result }
+    // What is answered is a script by the grammar, within the limits.
+    ensures script { IfOk result (λ xs. IsScriptOf text.now xs) }
+    // Each script is answered, unless memory fails.
+    ensures read { (xs : List Statement) → IsScriptOf text.now xs → MatchResult result (λ found. found ≡ xs) (λ e. e ≡ ParseFault.NoMemory) }
+    // A fault that is answered is the text's.
+    ensures fault { IfErr result (λ f. (f ≡ ParseFault.NoMemory → ⊥) → IsFaultOf text.now f) }
+    // The text's fault is answered, unless memory fails.
+    ensures only { (f : ParseFault) → IsFaultOf text.now f → MatchResult result (λ _. ⊥) (λ e. (e ≡ ParseFault.NoMemory → ⊥) → e ≡ f) }
 {
     script_of(alloc, text)
 }
+
+/// A text is one script, or has one first fault, and not both.
+pub fn texts_are_settled()
+    ensures { TextsAreSettled }
+{}

@@ -42,6 +42,10 @@ operand l.Prod = Unary
 abbrev pub whole : Part
 whole = Left l.Or
 
+-- expr = conj { OR conj }; conj = neg { AND neg }; neg = NOT neg | comp; comp = sum [ comparison sum ];
+-- sum = prod { ("+" | "-") prod }; prod = unary { "*" unary }; unary = "-" unary | primary;
+-- primary = number | literal | call | field | "(" expr [ "?" expr ":" expr ] ")"; call = a name of four "(" ident [ "." field ] ")".
+-- `one` and `more` are the first operand and a further one, so operators of a level group to the left.
 pub data Derives : Part → List Token → Expr → Type 0 where
   one : {l : Level} {ts : List Token} {x : Expr} → Derives (operand l) ts x → Derives (Left l) ts x
   more : {l : Level} {ts us : List Token} (t : Token) {x y : Expr} (op : BinaryOp)

@@ -2,9 +2,12 @@
 
 use std::alloc::{AllocError, AllocFailed};
 
+/// Why tokens weren't read.
 #[derive(Clone, Copy, Debug, PartialEq, Eq)]
 pub enum Fault {
+    /// They are not what was asked for.
     Syntax,
+    /// There was no memory for the tree.
     Memory,
 }
 

@@ -14,6 +14,7 @@ pub enum Level {
     Prod,
 }
 
+/// An operator of a level.
 #[derive(Clone, Copy, Debug, PartialEq, Eq)]
 pub enum BinaryOp {
     Or,
@@ -37,6 +38,7 @@ pub fn operator(level: Level, token: &Token) -> Option<BinaryOp>
     }
 }
 
+/// The comparison that the token is.
 pub fn comparison(token: &Token) -> Option<CompareOp>
     ensures { result ≡ spec.comparison token.now }
 {
@@ -46,25 +48,28 @@ pub fn comparison(token: &Token) -> Option<CompareOp>
     }
 }
 
+/// Whether the token is `NOT`.
 pub fn is_not(token: &Token) -> bool
     ensures { result ≡ spec.is_not token.now }
 {
     matches!(token, Token::Word(Word::Not))
 }
 
+/// Whether the token is `-`.
 pub fn is_minus(token: &Token) -> bool
     ensures { result ≡ spec.is_minus token.now }
 {
     matches!(token, Token::Symbol(Symbol::Minus))
 }
 
+/// Whether the token is `(`.
 pub fn is_open(token: &Token) -> bool
     ensures { result ≡ spec.is_open token.now }
 {
     matches!(token, Token::Symbol(Symbol::Open))
 }
 
-/// The call that the name is of.
+/// The call that begins with the name: `COUNT`, `SUM`, `MIN` or `MAX`, as they stand.
 #[tactic(auto, unfolding(crate::specs::Tests::call_kind))]
 pub fn call_kind(name: &[u8]) -> Option<CallKind>
     ensures { result ≡ spec.call_kind name.now }

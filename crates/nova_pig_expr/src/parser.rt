@@ -15,6 +15,7 @@ use sqlite_items::Boxed;
 use std::alloc::{AllocError, Global};
 use std::marker::Model;
 
+/// The expression of two operands.
 fn combine(
     alloc: Global,
     op: BinaryOp,
@@ -33,6 +34,8 @@ fn combine(
     Boxed::new(alloc, made)
 }
 
+/// Reads tokens from the left. Contracts see the tokens that are left; after an error those are
+/// open, so a parser that failed is let go.
 #[derive(Drop)]
 pub struct Parser<'a> {
     tokens: &'a [Placed],
@@ -48,12 +51,14 @@ impl<'a> Model for Parser<'a> {
 }
 
 impl<'a> Parser<'a> {
+    /// A parser of all these tokens.
     pub fn new(tokens: &'a [Placed]) -> Parser<'a>
         ensures { result ≡ map (λ q. q.token) tokens.now }
     {
         Parser { tokens }
     }
 
+    /// Whether no token is left.
     pub fn is_done(&self) -> bool
         ensures { IsTrue result ↔ (self.now ≡ []) }
     {
@@ -81,6 +86,7 @@ impl<'a> Parser<'a> {
         Some(&first.token)
     }
 
+    /// Takes an expression, the longest that stands in front.
     pub fn whole(&mut self, alloc: Global) -> Result<Boxed<Expr>, Fault>
         ensures { Answers (read (At whole) self.old) result self.new }
     {
@@ -103,6 +109,7 @@ impl<'a> Parser<'a> {
         }
     }
 
+    /// Takes a `NOT`, if one is next.
     fn eat_not(&mut self) -> bool
         ensures { NextNot result self.old self.new }
     {
@@ -117,6 +124,7 @@ impl<'a> Parser<'a> {
         }
     }
 
+    /// Takes a `-`, if one is next.
     fn eat_minus(&mut self) -> bool
         ensures { NextMinus result self.old self.new }
     {
@@ -131,6 +139,7 @@ impl<'a> Parser<'a> {
         }
     }
 
+    /// Takes a comparison, if one is next.
     fn comparison(&mut self) -> Option<CompareOp>
         ensures { NextComparison result self.old self.new }
     {
@@ -146,6 +155,7 @@ impl<'a> Parser<'a> {
         }
     }
 
+    /// Takes a `(`, if one is next.
     fn eat_open(&mut self) -> bool
         ensures { NextOpen result self.old self.new }
     {
@@ -226,6 +236,7 @@ impl<'a> Parser<'a> {
         Ok(Some(self.field(alloc)?))
     }
 
+    /// Takes a field.
     pub fn field(&mut self, alloc: Global) -> Result<Field, Fault>
         ensures { Answers (field_at self.old) result self.new }
     {
@@ -306,6 +317,7 @@ impl<'a> Parser<'a> {
         Ok(x)
     }
 
+    /// An operand of a level: what binds one step tighter.
     #[cycle(parser)]
     fn operand(&mut self, alloc: Global, level: Level) -> Result<Boxed<Expr>, Fault>
         ensures reading { Answers (read (At (operand level)) self.old) result self.new }
@@ -319,6 +331,7 @@ impl<'a> Parser<'a> {
         }
     }
 
+    /// `NOT` and what it stands before, or a comparison.
     #[cycle(parser)]
     fn neg(&mut self, alloc: Global) -> Result<Boxed<Expr>, Fault>
         ensures reading { Answers (read (At Neg) self.old) result self.new }
@@ -331,6 +344,7 @@ impl<'a> Parser<'a> {
         Ok(Boxed::new(alloc, Expr::Not(inner))?)
     }
 
+    /// A sum, or two of them compared.
     #[cycle(parser)]
     fn comp(&mut self, alloc: Global) -> Result<Boxed<Expr>, Fault>
         ensures reading { Answers (read (At Comp) self.old) result self.new }
@@ -344,6 +358,7 @@ impl<'a> Parser<'a> {
         Ok(Boxed::new(alloc, Expr::Compare { op, a, b })?)
     }
 
+    /// `-` and what it stands before, or a primary.
     #[cycle(parser)]
     fn unary(&mut self, alloc: Global) -> Result<Boxed<Expr>, Fault>
         ensures reading { Answers (read (At Unary) self.old) result self.new }
@@ -356,6 +371,7 @@ impl<'a> Parser<'a> {
         Ok(Boxed::new(alloc, Expr::Neg(inner))?)
     }
 
+    /// A number, a literal, a call, a field, or an expression in parentheses.
     #[cycle(parser)]
     fn primary(&mut self, alloc: Global) -> Result<Boxed<Expr>, Fault>
         ensures reading { Answers (read (At Primary) self.old) result self.new }
@@ -404,6 +420,7 @@ impl<'a> Parser<'a> {
         }
     }
 
+    /// Takes the `:` between the two values of a choice.
     fn colon(&mut self) -> Result<(), Fault>
         ensures { NextColon result self.old self.new }
     {
@@ -419,6 +436,7 @@ impl<'a> Parser<'a> {
         }
     }
 
+    /// Takes a `)`.
     fn close(&mut self) -> Result<(), Fault>
         ensures { NextClose result self.old self.new }
     {

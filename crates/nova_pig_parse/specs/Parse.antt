@@ -94,10 +94,10 @@ abbrev pub Gives : {A : Type 0} → Result A ParseFault → Result A ParseFault 
 Gives spec (Err fault.NoMemory) = Unit {0}
 Gives spec result = result ≡ spec
 
-abbrev pub IsFaultOf : TextFault → ParseFault → Type 0
-IsFaultOf (scan.At cause.Token at) f = f ≡ fault.Token at
-IsFaultOf (scan.At cause.NumberTooLarge at) f = f ≡ fault.NumberTooLarge at
-IsFaultOf scan.Memory f = f ≡ fault.NoMemory
+abbrev pub IsSameFault : TextFault → ParseFault → Type 0
+IsSameFault (scan.At cause.Token at) f = f ≡ fault.Token at
+IsSameFault (scan.At cause.NumberTooLarge at) f = f ≡ fault.NumberTooLarge at
+IsSameFault scan.Memory f = f ≡ fault.NoMemory
 
 -- the first cut and what follows it
 abbrev pub IsSplit : List Placed → List Placed → List Placed → Type 0

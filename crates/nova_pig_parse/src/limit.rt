@@ -7,24 +7,28 @@ ghost use Rattle.nova_pig_parse.specs.Parse as spec;
 use crate::text::ParseFault;
 use nova_pig_tree::{Placed, Symbol, Token, Word};
 
+/// Whether the token is `;`.
 pub fn is_semicolon(token: &Token) -> bool
     ensures { result ≡ limits.is_semicolon token.now }
 {
     matches!(token, Token::Symbol(Symbol::Semicolon))
 }
 
+/// Whether the token is `=`.
 fn is_assign(token: &Token) -> bool
     ensures { result ≡ limits.is_assign token.now }
 {
     matches!(token, Token::Symbol(Symbol::Assign))
 }
 
+/// Whether the token ends a piece: `,` or `;`.
 fn parts(token: &Token) -> bool
     ensures { result ≡ limits.parts token.now }
 {
     matches!(token, Token::Symbol(Symbol::Semicolon | Symbol::Comma))
 }
 
+/// Whether the token makes a tree deeper: `( ? + - *`, a comparison, NOT, AND or OR.
 fn nests(token: &Token) -> bool
     ensures { result ≡ limits.nests token.now }
 {
@@ -42,6 +46,7 @@ fn nests(token: &Token) -> bool
     }
 }
 
+/// The place of the first token that nests after 64 others of its piece.
 #[tactic(auto, unfolding(crate::specs::Parse::too_deep))]
 fn too_deep(mut tokens: &[Placed]) -> Option<u64>
     ensures { result ≡ limits.first_deep tokens.entry.now }
@@ -61,12 +66,14 @@ fn too_deep(mut tokens: &[Placed]) -> Option<u64>
     None
 }
 
+/// How many `;` there are.
 pub fn count_semicolons(tokens: &[Placed]) -> usize
     ensures { result ≡ limits.semicolons tokens.now }
 {
     tokens.iter().filter(|p| is_semicolon(&p.token)).count()
 }
 
+/// How many `=` there are.
 fn count_assigns(tokens: &[Placed]) -> usize
     ensures { result ≡ limits.assigns tokens.now }
 {

@@ -54,12 +54,14 @@ fn next_cut(tokens: &[Placed]) -> (&[Placed], &[Placed])
     }
 }
 
+/// Whether the statement stores.
 fn is_store(body: &Body) -> bool
     ensures { result ≡ spec.is_store body.now }
 {
     matches!(body, Body::Store { .. })
 }
 
+/// The place of a cut that is no statement, in a text of this length.
 fn place(cut: &[Placed], len: u64) -> u64
     ensures { result ≡ script.place len cut.now }
 {
@@ -73,6 +75,7 @@ fn place(cut: &[Placed], len: u64) -> u64
     }
 }
 
+/// Where the last token ends, or the place where there is none.
 fn end_of(at: u64, mut cut: &[Placed]) -> u64
     ensures { result ≡ script.end_of at cut.entry.now }
 {
@@ -84,6 +87,7 @@ fn end_of(at: u64, mut cut: &[Placed]) -> u64
     end
 }
 
+/// The statement of a cut, with its span.
 fn spanned(cut: &[Placed], body: Body) -> Statement
     ensures { result ≡ script.spanned cut.now body }
 {
@@ -101,6 +105,7 @@ fn spanned(cut: &[Placed], body: Body) -> Statement
     }
 }
 
+/// The statement of one cut, or the Syntax fault at it.
 fn statement_of(
     alloc: Global,
     cut: &[Placed],

@@ -11,15 +11,29 @@ use crate::script::statements_of;
 use nova_pig_scan::{Cause, TextFault, scan_text};
 use nova_pig_tree::Script;
 use std::alloc::{AllocError, Global};
+use thiserror::Error;
 
-/// Why a text is no script.
-#[derive(Clone, Copy, Debug, PartialEq, Eq)]
+/// Why a text is no script. A place is a byte place in the text.
+#[derive(Clone, Copy, Debug, PartialEq, Eq, Error)]
 pub enum ParseFault {
+    /// No token or white space begins there, or a comment or a literal that begins there isn't
+    /// closed, or the literal holds what may not stand in it.
+    #[error("no token begins at {at}")]
     Token { at: u64 },
+    /// The cut that begins there is no statement; the text's length, where it has no `;`.
+    #[error("no statement at {at}")]
     Syntax { at: u64 },
+    /// More than 65,536 bytes, 257 `;` or 256 `=`.
+    #[error("the script is too long")]
     TooLong,
+    /// The first token of a run without `,` and `;` that nests after 64 others.
+    #[error("too many operators at {at}")]
     TooDeep { at: u64 },
+    /// The number or position that begins there is above 9223372036854775807.
+    #[error("the number at {at} is too large")]
     NumberTooLarge { at: u64 },
+    /// There was no memory for the tree.
+    #[error("out of memory")]
     NoMemory,
 }
 
@@ -34,8 +48,9 @@ impl From<AllocError> for ParseFault {
     }
 }
 
+/// The fault of a text whose tokens fail.
 fn fault_of(fault: TextFault) -> ParseFault
-    ensures { spec.IsFaultOf fault result }
+    ensures { spec.IsSameFault fault result }
 {
     match fault {
         TextFault::At(Cause::Token, at) => ParseFault::Token { at },

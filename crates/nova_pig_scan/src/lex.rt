@@ -22,6 +22,7 @@ pub enum Class {
     Other,
 }
 
+/// The class of a byte.
 pub fn class_of(b: u8) -> Class
     ensures { result ≡ spec.class_of b }
 {
@@ -44,6 +45,7 @@ pub fn class_of(b: u8) -> Class
     }
 }
 
+/// Whether the byte is a letter, a digit or `_`.
 fn is_word(b: u8) -> bool
     ensures { result ≡ is_word b }
 {
@@ -89,6 +91,7 @@ pub fn line_len(text: &[u8]) -> usize
     text.len()
 }
 
+/// The keywords but `GROUP`, in lower case.
 const KEYWORDS: [(&[u8], Word); 17] = [
     (b"and", Word::And),
     (b"as", Word::As),
@@ -109,6 +112,7 @@ const KEYWORDS: [(&[u8], Word); 17] = [
     (b"union", Word::Union),
 ];
 
+/// Whether the words are the same in any case.
 pub fn same_word(a: &[u8], b: &[u8]) -> bool
     ensures { result ≡ str_eq_ignore_ascii_case a.now b.now }
 {
@@ -136,6 +140,7 @@ pub fn keyword(word: &[u8]) -> Option<Word>
     lookup(&KEYWORDS, word)
 }
 
+/// One more than the largest number, 2^63.
 pub const TOO_LARGE: u64 = 9_223_372_036_854_775_808;
 
 /// The value of some digits, or 2^63 where it is above that.
@@ -186,6 +191,7 @@ fn single_symbol(b: u8) -> Option<(Symbol, usize)>
     }
 }
 
+/// Why a literal wasn't read.
 #[derive(Clone, Copy, Debug, PartialEq, Eq)]
 pub enum LexFault {
     Token,
@@ -212,6 +218,7 @@ pub enum Step {
     Keep,
 }
 
+/// What the byte does, after a backslash or not.
 fn step_of(escaped: bool, b: u8) -> Step
     ensures { result ≡ spec.step_of escaped b }
 {

@@ -19,13 +19,19 @@ use std::str::from_utf8;
 /// What is in front of a text, and how many bytes it takes.
 #[derive(Drop)]
 pub enum Piece {
+    /// The text is at its end.
     End,
+    /// White space or a comment.
     Skip(usize),
+    /// A token.
     Take(Token, usize),
+    /// A number or position that is too large.
     TooLarge(usize),
+    /// None of these.
     Bad,
 }
 
+/// What a first `-` begins: a comment, or the symbol.
 fn dash(rest: &[u8]) -> Piece
     ensures { result ≡ spec.dash rest.now }
 {
@@ -39,6 +45,7 @@ fn dash(rest: &[u8]) -> Piece
     }
 }
 
+/// What a first `/` begins: a comment, or nothing.
 fn slash(rest: &[u8]) -> Piece
     ensures { result ≡ spec.slash rest.now }
 {
@@ -65,6 +72,7 @@ fn text_of(alloc: Global, bytes: &[u8]) -> Result<Str, AllocError>
     }
 }
 
+/// The token that a name is: a keyword in any case, or an identifier.
 fn word_token(alloc: Global, word: &[u8]) -> Result<Token, AllocError>
     requires { IsName word.now }
     ensures { IfOk result (λ t. t ≡ spec.word_token word.now) }
@@ -79,6 +87,7 @@ fn word_token(alloc: Global, word: &[u8]) -> Result<Token, AllocError>
     }
 }
 
+/// A name, whose first letter stands before the rest.
 fn word(alloc: Global, text: &[u8], rest: &[u8]) -> Result<Piece, AllocError>
     requires { (b : ℕ) × (text.now ≡ b ∷ rest.now) × (is_ascii_alphabetic b ≡ true) }
     ensures { IfOk result (λ p. p ≡ spec.word text.now rest.now) }
@@ -87,6 +96,7 @@ fn word(alloc: Global, text: &[u8], rest: &[u8]) -> Result<Piece, AllocError>
     Ok(Piece::Take(word_token(alloc, &text[..n])?, n))
 }
 
+/// A number, whose first digit stands before the rest.
 fn number(text: &[u8], rest: &[u8]) -> Piece
     requires { length text.now ≡ length rest.now + 1 }
     ensures { result ≡ spec.number text.now rest.now }
@@ -134,6 +144,7 @@ fn quoted(alloc: Global, rest: &[u8]) -> Result<Piece, AllocError>
     }
 }
 
+/// A symbol.
 fn symbol(text: &[u8]) -> Piece
     ensures { result ≡ spec.symbol_piece (symbol text.now) }
 {

@@ -11,16 +11,21 @@ use nova_pig_tree::Placed;
 use sqlite_items::Items;
 use std::alloc::{AllocError, AllocFailed, Global};
 
+/// What is wrong at a place.
 #[derive(Clone, Copy, Debug, PartialEq, Eq)]
 pub enum Cause {
+    /// No token and no white space begins there, or a comment or a literal isn't as it must be.
     Token,
+    /// The digits of a number or position are above 9223372036854775807.
     NumberTooLarge,
 }
 
 /// Why a text has no tokens.
 #[derive(Clone, Copy, Debug, PartialEq, Eq)]
 pub enum TextFault {
+    /// The first fault, and its byte place.
     At(Cause, u64),
+    /// There was no memory for the tokens.
     Memory,
 }
 
@@ -43,7 +48,8 @@ fn text_from(text: &[u8], at: usize) -> &[u8]
     &text[at..]
 }
 
-/// The tokens of a text.
+/// The tokens of a text of at most 65,536 bytes, or its first fault. Each byte is looked at by one
+/// piece.
 pub fn scan_text(alloc: Global, text: &str) -> Result<Items<Placed>, TextFault>
     requires { length text.now ≤ 65536 }
     ensures { spec.Gives (spec.tokens text.now) result }

@@ -16,7 +16,7 @@ use Rattle.nova_pig_tree.specs.declared.token.Symbol.TheVariants as s
 use Rattle.nova_pig_expr.specs.Grammar.{Derives, IsField, whole}
 use Rattle.nova_pig_statement.specs.Reads.{kind_of}
 
--- { "," one }
+-- { "," one }, for each sort of parts
 pub data Tail {A : Type 0} (One : List Token → A → Type 0) : List Token → List A → Type 0 where
   none : Tail One [] []
   next : {ts us : List Token} {a : A} {as' : List A} → One ts a → Tail One us as' → Tail One (Symbol s.Comma ∷ ts ++ us) (a ∷ as')
@@ -25,16 +25,19 @@ pub data Tail {A : Type 0} (One : List Token → A → Type 0) : List Token → 
 pub data Listed {A : Type 0} (One : List Token → A → Type 0) : List Token → List A → Type 0 where
   begin : {ts us : List Token} {a : A} {as' : List A} → One ts a → Tail One us as' → Listed One (ts ++ us) (a ∷ as')
 
+-- [ AS ident [ ":" kind ] ]
 pub data IsLabel : List Token → Option (List ℕ) × Option Kind → Type 0 where
   bare : IsLabel [] (None, None)
   called : {a : List ℕ} → IsLabel (Word w.As ∷ Ident a ∷ []) (Some a, None)
   typed : {a k : List ℕ} (kind : Kind) → kind_of k ≡ Some kind → IsLabel (Word w.As ∷ Ident a ∷ Symbol s.Colon ∷ Ident k ∷ []) (Some a, Some kind)
 
+-- item = "*" | FLATTEN "(" group ")" | expr [ AS ident [ ":" kind ] ]
 pub data IsItem : List Token → Item → Type 0 where
   all : IsItem (Symbol s.Star ∷ []) item.All
   flatten : IsItem (Word w.Flatten ∷ Symbol s.Open ∷ Group true ∷ Symbol s.Close ∷ []) item.Flatten
   value : {ts us : List Token} {x : Expr} {l : Option (List ℕ) × Option Kind} → Derives whole ts x → IsLabel us l → IsItem (ts ++ us) (item.Value x l.0 l.1)
 
+-- cols = field | "(" field { "," field } ")"
 pub data IsColumns : List Token → List Field → Type 0 where
   single : {ts : List Token} {a : Field} → IsField ts a → IsColumns ts (a ∷ [])
   several : {ts : List Token} {fs : List Field} → Listed IsField ts fs → IsColumns (Symbol s.Open ∷ ts ++ Symbol s.Close ∷ []) fs
@@ -42,6 +45,7 @@ pub data IsColumns : List Token → List Field → Type 0 where
 pub data IsName : List Token → List ℕ → Type 0 where
   name : {a : List ℕ} → IsName (Ident a ∷ []) a
 
+-- op: one case an operator; GROUP as the keyword goes in any spelling, as a field only as `group`
 pub data IsOp : List Token → Op → Type 0 where
   load : {c : List ℕ} → IsOp (Word w.Load ∷ Literal c ∷ []) (op.Load c)
   filter : {a : List ℕ} {ts : List Token} {x : Expr} → Derives whole ts x → IsOp (Word w.Filter ∷ Ident a ∷ Word w.By ∷ ts) (op.Filter a x)
@@ -67,7 +71,11 @@ abbrev pub is_semicolon : Token → Bool
 is_semicolon (Symbol s.Semicolon) = true
 is_semicolon _ = false
 
--- a statement with its `;`
+-- a statement with its `;`: ident "=" op ";", or STORE ident INTO literal ";"
 pub data IsStatement : List Token → Body → Type 0 where
   define : {a : List ℕ} {ts : List Token} {o : Op} → IsOp ts o → IsStatement (Ident a ∷ Symbol s.Assign ∷ ts ++ Symbol s.Semicolon ∷ []) (body.Define a o)
   store : {a c : List ℕ} → IsStatement (Word w.Store ∷ Ident a ∷ Word w.Into ∷ Literal c ∷ Symbol s.Semicolon ∷ []) (body.Store a c)
+
+-- tokens are one statement at most
+abbrev pub OneStatement : Type 0
+OneStatement = (ts : List Token) (a b : Body) → IsStatement ts a → IsStatement ts b → a ≡ b

@@ -9,7 +9,7 @@ use nova_pig_tree::{Field, Item, Kind, Str, Symbol, Token, Word};
 use sqlite_items::Items;
 use std::alloc::Global;
 
-/// The kind of a name.
+/// The kind that an identifier names: `long` and `int` are the same.
 #[tactic(auto, unfolding(crate::specs::Reads::kind_of))]
 fn kind_of(name: &[u8]) -> Option<Kind>
     ensures { result ≡ spec.kind_of name.now }
@@ -25,6 +25,7 @@ fn kind_of(name: &[u8]) -> Option<Kind>
     }
 }
 
+/// An identifier.
 pub fn name_at(alloc: Global, parser: &mut Parser<'_>) -> Result<Str, Fault>
     ensures { Answers (spec.name_at parser.old) result parser.new }
 {
@@ -34,6 +35,7 @@ pub fn name_at(alloc: Global, parser: &mut Parser<'_>) -> Result<Str, Fault>
     Ok(name.copy(alloc)?)
 }
 
+/// `: kind`, or nothing.
 fn kind_at(parser: &mut Parser<'_>) -> Result<Option<Kind>, Fault>
     ensures { Answers (spec.kind_at parser.old) result parser.new }
 {
@@ -50,6 +52,7 @@ fn kind_at(parser: &mut Parser<'_>) -> Result<Option<Kind>, Fault>
     }
 }
 
+/// `AS ident` with a kind or without, or nothing.
 fn label_at(alloc: Global, parser: &mut Parser<'_>) -> Result<(Option<Str>, Option<Kind>), Fault>
     ensures { Answers (spec.label_at parser.old) result parser.new }
 {
@@ -65,6 +68,7 @@ fn label_at(alloc: Global, parser: &mut Parser<'_>) -> Result<(Option<Str>, Opti
     Ok((Some(name), kind))
 }
 
+/// What follows FLATTEN.
 fn flatten_at(parser: &mut Parser<'_>) -> Result<Item, Fault>
     ensures { Answers (spec.flatten_at parser.old) result parser.new }
 {
@@ -80,6 +84,7 @@ fn flatten_at(parser: &mut Parser<'_>) -> Result<Item, Fault>
     Ok(Item::Flatten)
 }
 
+/// An expression as an item.
 fn value_at(alloc: Global, parser: &mut Parser<'_>) -> Result<Item, Fault>
     ensures { Answers (spec.value_at parser.old) result parser.new }
 {
@@ -92,7 +97,8 @@ fn value_at(alloc: Global, parser: &mut Parser<'_>) -> Result<Item, Fault>
     })
 }
 
-pub fn item_at(alloc: Global, parser: &mut Parser<'_>) -> Result<Item, Fault>
+/// An item of GENERATE.
+fn item_at(alloc: Global, parser: &mut Parser<'_>) -> Result<Item, Fault>
     ensures { Answers (spec.item_at parser.old) result parser.new }
 {
     match parser.peek() {
@@ -120,6 +126,7 @@ fn eat_comma(parser: &mut Parser<'_>) -> bool
     }
 }
 
+/// Items with commas between.
 pub fn items_at(alloc: Global, parser: &mut Parser<'_>) -> Result<Items<Item>, Fault>
     ensures { Answers (spec.listed spec.item_at parser.old) result parser.new }
 {
@@ -131,6 +138,7 @@ pub fn items_at(alloc: Global, parser: &mut Parser<'_>) -> Result<Items<Item>, F
     Ok(out)
 }
 
+/// Fields with commas between.
 fn fields_at(alloc: Global, parser: &mut Parser<'_>) -> Result<Items<Field>, Fault>
     ensures { Answers (spec.listed field_at parser.old) result parser.new }
 {
@@ -142,6 +150,7 @@ fn fields_at(alloc: Global, parser: &mut Parser<'_>) -> Result<Items<Field>, Fau
     Ok(out)
 }
 
+/// The columns of a BY: a field, or several in parentheses.
 pub fn columns_at(alloc: Global, parser: &mut Parser<'_>) -> Result<Items<Field>, Fault>
     ensures { Answers (spec.columns_at parser.old) result parser.new }
 {
@@ -158,6 +167,7 @@ pub fn columns_at(alloc: Global, parser: &mut Parser<'_>) -> Result<Items<Field>
     Ok(fields)
 }
 
+/// Identifiers with commas between.
 pub fn names_at(alloc: Global, parser: &mut Parser<'_>) -> Result<Items<Str>, Fault>
     ensures { Answers (spec.listed spec.name_at parser.old) result parser.new }
 {

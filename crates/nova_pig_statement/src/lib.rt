@@ -3,5 +3,7 @@
 
 mod item;
 mod statement;
+#[cfg(test)]
+mod tests;
 
-pub use statement::{cut_body, statement_body};
+pub use statement::{cut_body, one_statement, statement_body};

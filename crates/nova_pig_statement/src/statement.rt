@@ -3,7 +3,7 @@
 ghost use Rattle.std.specs.Prelude.{◌≡◌, ◌<◌, length, map, OnOk, IfOk, MatchResult};
 ghost use Rattle.nova_pig_expr.specs.Reading.{Answers};
 ghost use Rattle.nova_pig_statement.specs.Reads as spec;
-ghost use Rattle.nova_pig_statement.specs.Statement.{IsStatement};
+ghost use Rattle.nova_pig_statement.specs.Statement.{IsStatement, OneStatement};
 ghost use Rattle.nova_pig_tree.specs.declared.statement.Body.{Body};
 
 use crate::item::{columns_at, items_at, name_at, names_at};
@@ -11,6 +11,7 @@ use nova_pig_expr::{Fault, Parser};
 use nova_pig_tree::{Body, Op, Placed, Str, Symbol, Token, Word};
 use std::alloc::Global;
 
+/// `ident BY`.
 fn by_at(alloc: Global, parser: &mut Parser<'_>) -> Result<Str, Fault>
     ensures { Answers (spec.by_at parser.old) result parser.new }
 {
@@ -23,6 +24,7 @@ fn by_at(alloc: Global, parser: &mut Parser<'_>) -> Result<Str, Fault>
     Ok(name.copy(alloc)?)
 }
 
+/// `ident GENERATE`.
 fn generate_at(alloc: Global, parser: &mut Parser<'_>) -> Result<Str, Fault>
     ensures { Answers (spec.generate_at parser.old) result parser.new }
 {
@@ -35,6 +37,7 @@ fn generate_at(alloc: Global, parser: &mut Parser<'_>) -> Result<Str, Fault>
     Ok(name.copy(alloc)?)
 }
 
+/// What follows FILTER.
 fn filter_at(alloc: Global, parser: &mut Parser<'_>) -> Result<Op, Fault>
     ensures { Answers (spec.filter_at parser.old) result parser.new }
 {
@@ -46,6 +49,7 @@ fn filter_at(alloc: Global, parser: &mut Parser<'_>) -> Result<Op, Fault>
     })
 }
 
+/// What follows FOREACH.
 fn foreach_at(alloc: Global, parser: &mut Parser<'_>) -> Result<Op, Fault>
     ensures { Answers (spec.foreach_at parser.old) result parser.new }
 {
@@ -54,6 +58,7 @@ fn foreach_at(alloc: Global, parser: &mut Parser<'_>) -> Result<Op, Fault>
     Ok(Op::Foreach { from, items })
 }
 
+/// What follows GROUP.
 fn group_at(alloc: Global, parser: &mut Parser<'_>) -> Result<Op, Fault>
     ensures { Answers (spec.group_at parser.old) result parser.new }
 {
@@ -62,6 +67,7 @@ fn group_at(alloc: Global, parser: &mut Parser<'_>) -> Result<Op, Fault>
     Ok(Op::Group { from, by })
 }
 
+/// What follows JOIN.
 fn join_at(alloc: Global, parser: &mut Parser<'_>) -> Result<Op, Fault>
     ensures { Answers (spec.join_at parser.old) result parser.new }
 {
@@ -80,6 +86,7 @@ fn join_at(alloc: Global, parser: &mut Parser<'_>) -> Result<Op, Fault>
     })
 }
 
+/// What follows UNION: two arms at least.
 fn union_at(alloc: Global, parser: &mut Parser<'_>) -> Result<Op, Fault>
     ensures { Answers (spec.union_at parser.old) result parser.new }
 {
@@ -90,6 +97,7 @@ fn union_at(alloc: Global, parser: &mut Parser<'_>) -> Result<Op, Fault>
     Ok(Op::Union { arms })
 }
 
+/// What follows LOAD.
 fn load_at(alloc: Global, parser: &mut Parser<'_>) -> Result<Str, Fault>
     ensures { Answers (spec.text_at parser.old) result parser.new }
 {
@@ -99,7 +107,8 @@ fn load_at(alloc: Global, parser: &mut Parser<'_>) -> Result<Str, Fault>
     Ok(text.copy(alloc)?)
 }
 
-pub fn op_at(alloc: Global, parser: &mut Parser<'_>) -> Result<Op, Fault>
+/// The operator of a definition.
+fn op_at(alloc: Global, parser: &mut Parser<'_>) -> Result<Op, Fault>
     ensures { Answers (spec.op_at parser.old) result parser.new }
 {
     match parser.take() {
@@ -118,6 +127,7 @@ pub fn op_at(alloc: Global, parser: &mut Parser<'_>) -> Result<Op, Fault>
     }
 }
 
+/// The `;` of a statement that is read.
 fn ended(parser: &mut Parser<'_>, body: Body) -> Result<Body, Fault>
     ensures { Answers (spec.ended body parser.old) result parser.new }
 {
@@ -127,6 +137,7 @@ fn ended(parser: &mut Parser<'_>, body: Body) -> Result<Body, Fault>
     Ok(body)
 }
 
+/// What follows the alias of a definition.
 fn define_at(alloc: Global, parser: &mut Parser<'_>, alias: Str) -> Result<Body, Fault>
     ensures { Answers (spec.define_at alias parser.old) result parser.new }
 {
@@ -137,6 +148,7 @@ fn define_at(alloc: Global, parser: &mut Parser<'_>, alias: Str) -> Result<Body,
     ended(parser, Body::Define { alias, op })
 }
 
+/// What follows STORE.
 fn store_at(alloc: Global, parser: &mut Parser<'_>) -> Result<Body, Fault>
     ensures { Answers (spec.store_at parser.old) result parser.new }
 {
@@ -154,6 +166,7 @@ fn store_at(alloc: Global, parser: &mut Parser<'_>) -> Result<Body, Fault>
     ended(parser, Body::Store { alias, channel })
 }
 
+/// A statement.
 fn cut_at(alloc: Global, parser: &mut Parser<'_>) -> Result<Body, Fault>
     ensures { Answers (spec.cut_at parser.old) result parser.new }
 {
@@ -167,7 +180,7 @@ fn cut_at(alloc: Global, parser: &mut Parser<'_>) -> Result<Body, Fault>
     }
 }
 
-/// The statement that a whole cut is.
+/// The statement that these tokens are, as the reading from the left has it.
 pub fn cut_body(alloc: Global, cut: &[Placed]) -> Result<Body, Fault>
     ensures { spec.IsBodyOf (map (λ q. q.token) cut.now) result }
 {
@@ -179,10 +192,15 @@ pub fn cut_body(alloc: Global, cut: &[Placed]) -> Result<Body, Fault>
     Ok(body)
 }
 
-/// The statement that a whole cut is, as the grammar says.
+/// The statement that these tokens are, both ways: by the grammar.
 pub fn statement_body(alloc: Global, cut: &[Placed]) -> Result<Body, Fault>
     ensures sound { IfOk result (λ b. IsStatement (map (λ q. q.token) cut.now) b) }
     ensures complete { (b : Body) → IsStatement (map (λ q. q.token) cut.now) b → MatchResult result (λ found. found ≡ b) (λ e. e ≡ Fault.Memory) }
 {
     cut_body(alloc, cut)
 }
+
+/// Tokens are one statement at most.
+pub fn one_statement()
+    ensures { OneStatement }
+{}

@@ -1,5 +1,3 @@
-pub mod Folds
-pub mod Seen
-pub mod Applied
+pub mod Folded
 pub mod Keyed
 pub mod Puts

@@ -31,7 +31,7 @@ key_fits_at : (ks : List Kind) (row : List Value) (key : List ℕ) → FitKinds 
 key_fits_at ks row [] fit below = tt
 key_fits_at ks row (p ∷ ps) fit below = (value_fits ks row p fit (below 0 (omega arith)), key_fits_at ks row ps fit (λ i lt. below (suc i) (omega arith)))
 
-length_kinds : (cs : List Column) → length (kinds cs) ≡ length cs
+pub length_kinds : (cs : List Column) → length (kinds cs) ≡ length cs
 length_kinds [] = refl
 length_kinds (c ∷ cs) = ap suc (length_kinds cs)
 

@@ -1,0 +1,5 @@
+use Rattle.nova_value.specs.Entries.{key_fits}
+use Rattle.nova_value.proofs.laws.keys_fit.Goals as goal
+
+pub returns : goal.returns
+returns c = key_fits

@@ -1,22 +1,21 @@
 -- What the grammar derives is read, whatever follows that doesn't go on with it.
-use Rattle.std.proofs.Common.{◌≡◌, true, false, ℕ, zero, suc, ◌+◌, ◌*◌, ◌<◌, ◌≤◌, List, [], ◌∷◌, ◌++◌, length, Option, Some, None, refl, ap, sym, subst, ◌∙◌, arith, append_assoc}
+use Rattle.std.proofs.Common.{◌≡◌, ℕ, ◌<◌, ◌≤◌, List, [], ◌∷◌, ◌++◌, Option, Some, None, refl, ap, sym, ◌∙◌, arith, append_assoc}
 use Rattle.nova_pig_tree.specs.declared.expression.CallKind.{CallKind}
 use Rattle.nova_pig_tree.specs.declared.expression.Field.{Field}
-use Rattle.nova_pig_tree.specs.declared.expression.CompareOp.{CompareOp}
 use Rattle.nova_pig_tree.specs.declared.expression.Expr.{Expr}
 use Rattle.nova_pig_tree.specs.declared.expression.Expr.TheVariants as e
 use Rattle.nova_pig_tree.specs.declared.expression.Field.TheVariants as f
 use Rattle.nova_pig_tree.specs.declared.token.Token.{Token}
-use Rattle.nova_pig_tree.specs.declared.token.Token.TheVariants.{Ident, Word, Group, Number, Position, Literal, Symbol}
+use Rattle.nova_pig_tree.specs.declared.token.Token.TheVariants.{Ident, Word, Number, Literal, Symbol}
 use Rattle.nova_pig_tree.specs.declared.token.Word.TheVariants as w
 use Rattle.nova_pig_tree.specs.declared.token.Symbol.TheVariants as s
 use Rattle.nova_pig_expr.specs.declared.operators.Level.{Level}
 use Rattle.nova_pig_expr.specs.declared.operators.Level.TheVariants as l
 use Rattle.nova_pig_expr.specs.declared.operators.BinaryOp.{BinaryOp}
-use Rattle.nova_pig_expr.specs.Tests.{operator, comparison, combine, call_kind, group_word}
+use Rattle.nova_pig_expr.specs.Tests.{operator, combine, call_kind, group_word}
 use Rattle.nova_pig_expr.specs.Grammar as g
 use Rattle.nova_pig_expr.specs.Grammar.{Part, Left, Neg, Comp, Unary, Primary, operand, whole, Derives, IsField}
-use Rattle.nova_pig_expr.specs.Reading.{Reading, Reader, and_then, Goal, At, After, left, after_by, after, neg, compared_by, compared, comp, unary, closed, third, branches, opened, named, single, field_after, group_after, field_at, refer, call_field, call_after, named_by, primary, step, rank, read}
+use Rattle.nova_pig_expr.specs.Reading.{Reader, and_then, At, After, after_by, neg, compared, unary, closed, third, opened, field_after, group_after, field_at, refer, named_by, primary, step, rank, read}
 use Rattle.nova_pig_expr.proofs.Steps.{read-step}
 
 -- how loose a part must be for the token to go on with it, or 9 where it goes on with none

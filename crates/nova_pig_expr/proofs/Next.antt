@@ -1,16 +1,15 @@
 -- What the first token says of a reading.
-use Rattle.std.proofs.Common.{◌≡◌, ℕ, zero, suc, ◌+◌, ◌<◌, Bool, true, false, List, [], ◌∷◌, length, Option, Some, None, refl, ap, ◌∙◌, arith}
+use Rattle.std.proofs.Common.{◌≡◌, true, false, List, [], ◌∷◌, length, Some, None, refl, ap, ◌∙◌, arith}
 use Rattle.nova_pig_tree.specs.declared.expression.CompareOp.{CompareOp}
-use Rattle.nova_pig_tree.specs.declared.expression.Expr.{Expr}
 use Rattle.nova_pig_tree.specs.declared.token.Token.{Token}
-use Rattle.nova_pig_tree.specs.declared.token.Token.TheVariants.{Ident, Word, Group, Number, Position, Literal, Symbol}
+use Rattle.nova_pig_tree.specs.declared.token.Token.TheVariants.{Word, Symbol}
 use Rattle.nova_pig_tree.specs.declared.token.Word.TheVariants as w
 use Rattle.nova_pig_tree.specs.declared.token.Symbol.TheVariants as s
 use Rattle.nova_pig_expr.specs.declared.operators.Level.{Level}
 use Rattle.nova_pig_expr.specs.declared.operators.BinaryOp.{BinaryOp}
 use Rattle.nova_pig_expr.specs.Tests.{operator, comparison, is_not, is_minus, is_open}
-use Rattle.nova_pig_expr.specs.Grammar.{Part, Left, Neg, Comp, Unary, Primary, operand, whole}
-use Rattle.nova_pig_expr.specs.Reading.{At, After, left, comp, after, after_by, compared_by, step, read, Next, NextNot, NextMinus, NextComparison, NextOpen, NextMark, NextColon, NextClose}
+use Rattle.nova_pig_expr.specs.Grammar.{Left, Neg, Comp, Unary, Primary}
+use Rattle.nova_pig_expr.specs.Reading.{At, After, left, comp, after_by, compared_by, step, read, Next, NextNot, NextMinus, NextComparison, NextOpen}
 use Rattle.nova_pig_expr.proofs.Steps.{read-step}
 
 pub next-none : (l : Level) → Next l None [] []

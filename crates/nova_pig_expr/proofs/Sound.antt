@@ -1,11 +1,10 @@
 -- What is read is derived by the grammar.
-use Rattle.std.proofs.Common.{◌≡◌, true, false, ℕ, zero, suc, ◌+◌, ◌*◌, ◌<◌, ◌≤◌, List, [], ◌∷◌, ◌++◌, length, Option, Some, None, refl, ap, sym, subst, ◌∙◌, arith, append_assoc}
+use Rattle.std.proofs.Common.{◌≡◌, true, ℕ, zero, suc, List, [], ◌∷◌, ◌++◌, Option, Some, None, refl, ap, sym, subst, ◌∙◌, append_assoc}
 use Rattle.nova_pig_tree.specs.declared.expression.CallKind.{CallKind}
 use Rattle.nova_pig_tree.specs.declared.expression.Field.{Field}
 use Rattle.nova_pig_tree.specs.declared.expression.CompareOp.{CompareOp}
 use Rattle.nova_pig_tree.specs.declared.expression.Expr.{Expr}
 use Rattle.nova_pig_tree.specs.declared.expression.Expr.TheVariants as e
-use Rattle.nova_pig_tree.specs.declared.expression.Field.TheVariants as f
 use Rattle.nova_pig_tree.specs.declared.token.Token.{Token}
 use Rattle.nova_pig_tree.specs.declared.token.Token.TheVariants.{Ident, Word, Group, Number, Position, Literal, Symbol}
 use Rattle.nova_pig_tree.specs.declared.token.Word.TheVariants as w
@@ -13,10 +12,10 @@ use Rattle.nova_pig_tree.specs.declared.token.Symbol.TheVariants as s
 use Rattle.nova_pig_expr.specs.declared.operators.Level.{Level}
 use Rattle.nova_pig_expr.specs.declared.operators.Level.TheVariants as l
 use Rattle.nova_pig_expr.specs.declared.operators.BinaryOp.{BinaryOp}
-use Rattle.nova_pig_expr.specs.Tests.{operator, comparison, combine, call_kind, group_word}
+use Rattle.nova_pig_expr.specs.Tests.{operator, comparison, combine, call_kind}
 use Rattle.nova_pig_expr.specs.Grammar as g
 use Rattle.nova_pig_expr.specs.Grammar.{Part, Left, Neg, Comp, Unary, Primary, operand, whole, Derives, IsField}
-use Rattle.nova_pig_expr.specs.Reading.{Reading, Reader, and_then, Goal, At, After, left, after_by, after, neg, compared_by, compared, comp, unary, closed, third, branches, opened, named, single, field_after, group_after, field_at, refer, call_field, call_after, named_by, primary, step, read_by, rank, fuel, read}
+use Rattle.nova_pig_expr.specs.Reading.{Reading, Reader, and_then, Goal, At, After, left, after_by, after, neg, compared_by, compared, comp, unary, closed, third, branches, opened, field_after, group_after, field_at, refer, call_field, call_after, named_by, primary, step, read_by, fuel, read}
 use Rattle.nova_pig_expr.proofs.Steps.{bound, same_value, same_rest}
 
 -- the tokens that were read derive the tree, and those of a goal after operands go on with them

@@ -1,9 +1,8 @@
 -- The bound on steps is never met: `read` is its own step.
-use Rattle.std.proofs.Common.{◌≡◌, true, false, ℕ, zero, suc, ◌+◌, ◌*◌, ◌<◌, ◌≤◌, List, [], ◌∷◌, ◌++◌, length, Option, Some, None, refl, ap, sym, ◌∙◌, arith}
+use Rattle.std.proofs.Common.{◌≡◌, true, ℕ, zero, suc, ◌+◌, ◌*◌, ◌<◌, ◌≤◌, List, [], ◌∷◌, length, Option, Some, None, refl, ap, ◌∙◌, arith}
 use Rattle.nova_pig_tree.specs.declared.expression.CallKind.{CallKind}
 use Rattle.nova_pig_tree.specs.declared.expression.Field.{Field}
 use Rattle.nova_pig_tree.specs.declared.expression.CompareOp.{CompareOp}
-use Rattle.nova_pig_tree.specs.declared.expression.Field.TheVariants as f
 use Rattle.nova_pig_tree.specs.declared.expression.Expr.{Expr}
 use Rattle.nova_pig_tree.specs.declared.expression.Expr.TheVariants as e
 use Rattle.nova_pig_tree.specs.declared.token.Token.{Token}
@@ -15,7 +14,7 @@ use Rattle.nova_pig_expr.specs.declared.operators.Level.TheVariants as l
 use Rattle.nova_pig_expr.specs.declared.operators.BinaryOp.{BinaryOp}
 use Rattle.nova_pig_expr.specs.Tests.{operator, comparison, combine, call_kind, group_word}
 use Rattle.nova_pig_expr.specs.Grammar.{Part, Left, Neg, Comp, Unary, Primary, operand, whole}
-use Rattle.nova_pig_expr.specs.Reading.{Reading, Reader, and_then, Goal, At, After, left, after_by, after, neg, compared_by, compared, comp, unary, closed, third, branches, opened, named, single, field_after, group_after, field_at, refer, call_field, call_after, named_by, primary, step, read_by, rank, fuel, read}
+use Rattle.nova_pig_expr.specs.Reading.{Reading, Reader, and_then, Goal, At, After, left, after_by, after, neg, compared_by, compared, comp, unary, closed, third, branches, opened, field_after, group_after, field_at, refer, call_field, call_after, named_by, primary, step, read_by, rank, fuel, read}
 
 -- a reading of two parts that succeeded
 pub bound : {A B : Type 0} (r : Reading A) (k : A → Reader B) {y : B} {rest : List Token} → and_then r k ≡ Some (y, rest)

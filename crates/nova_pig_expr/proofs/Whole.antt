@@ -1,11 +1,11 @@
 -- All tokens as one expression.
-use Rattle.std.proofs.Common.{◌≡◌, ℕ, List, [], ◌∷◌, ◌++◌, Option, Some, None, Result, Ok, Err, MatchResult, ◌≢◌, refl, ap, sym, subst, ◌∙◌}
+use Rattle.std.proofs.Common.{◌≡◌, List, [], ◌∷◌, ◌++◌, Some, Err, refl, ap, sym, subst, ◌∙◌}
 use Rattle.nova_pig_tree.specs.declared.expression.Expr.{Expr}
 use Rattle.nova_pig_tree.specs.declared.token.Token.{Token}
 use Rattle.nova_pig_expr.specs.declared.fault.Fault.{Fault}
 use Rattle.nova_pig_expr.specs.declared.fault.Fault.TheVariants.{Syntax, Memory}
 use Rattle.nova_pig_expr.specs.Grammar.{Part, whole, Derives}
-use Rattle.nova_pig_expr.specs.Reading.{Reading, Answers, At, read}
+use Rattle.nova_pig_expr.specs.Reading.{Answers, At, read}
 use Rattle.nova_pig_expr.proofs.Steps.{same_value, same_rest}
 use Rattle.nova_pig_expr.proofs.Sound.{read-sound}
 use Rattle.nova_pig_expr.proofs.Complete.{read-complete, one_reading}

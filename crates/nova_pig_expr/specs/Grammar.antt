@@ -1,5 +1,5 @@
 -- The grammar of expressions, one case per production.
-use Rattle.std.specs.Prelude.{◌≡◌, ℕ, zero, suc, ◌+◌, ◌<◌, Bool, true, false, List, [], ◌∷◌, ◌++◌, Option, Some, None, ℤ}
+use Rattle.std.specs.Prelude.{◌≡◌, ℕ, true, List, [], ◌∷◌, ◌++◌, Some, None, ℤ}
 use Rattle.nova_pig_tree.specs.declared.expression.Field.{Field}
 use Rattle.nova_pig_tree.specs.declared.expression.Field.TheVariants as f
 use Rattle.nova_pig_tree.specs.declared.expression.CallKind.{CallKind}
@@ -13,7 +13,7 @@ use Rattle.nova_pig_tree.specs.declared.token.Symbol.TheVariants as s
 use Rattle.nova_pig_expr.specs.declared.operators.Level.{Level}
 use Rattle.nova_pig_expr.specs.declared.operators.Level.TheVariants as l
 use Rattle.nova_pig_expr.specs.declared.operators.BinaryOp.{BinaryOp}
-use Rattle.nova_pig_expr.specs.Tests.{operator, comparison, combine, call_kind, group_word}
+use Rattle.nova_pig_expr.specs.Tests.{operator, combine, call_kind, group_word}
 
 -- field = ident ["::" ident] | group [("::" | ".") ident] | position
 pub data IsField : List Token → Field → Type 0 where

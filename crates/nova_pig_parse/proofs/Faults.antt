@@ -1,5 +1,5 @@
 -- What is read of a text is the script or the first fault that the relations say.
-use Rattle.std.proofs.Common.{◌≡◌, ℕ, zero, suc, ◌+◌, ◌<◌, ◌≤◌, Bool, true, false, List, [], ◌∷◌, ◌++◌, length, Option, Some, None, Result, Ok, Err, refl, ap, sym, subst, ◌∙◌, arith, inl, inr, ◌⊎◌, IfOk, IfErr, MatchResult}
+use Rattle.std.proofs.Common.{◌≡◌, ℕ, ◌<◌, ◌≤◌, Bool, true, false, List, length, Option, Some, None, Ok, Err, refl, ap, sym, subst, ◌∙◌, arith, inl, inr, ◌⊎◌, IfOk, IfErr, MatchResult}
 use Rattle.std.proofs.lemmas.Bool.Decides.{nat_tests}
 use Rattle.std.specs.Prelude.{if◌then◌else◌, nat_lt}
 use Rattle.nova_pig_tree.specs.declared.statement.Statement.{Statement}
@@ -14,7 +14,7 @@ use Rattle.nova_pig_scan.proofs.Exact as exact
 use Rattle.nova_pig_parse.specs.declared.text.ParseFault.{ParseFault}
 use Rattle.nova_pig_parse.specs.declared.text.ParseFault.TheVariants as fault
 use Rattle.nova_pig_parse.specs.Limits.{semicolons, assigns, first_deep, IsWithin}
-use Rattle.nova_pig_parse.specs.Script.{IsScriptOf, IsFaultOf, long, token, number, many_semicolons, deep, many_assigns, syntax, IsSettled, TextsAreSettled}
+use Rattle.nova_pig_parse.specs.Script.{IsScriptOf, IsFaultOf, long, token, number, many_semicolons, deep, many_assigns, syntax, TextsAreSettled}
 use Rattle.nova_pig_parse.specs.Parse.{Statements, cuts, statements, limit, deep_or, unless, by_tokens, parse_of, Gives}
 use Rattle.nova_pig_parse.proofs.Scripts.{Reads, reads, script_read, syntax_read}
 

@@ -1,7 +1,7 @@
 -- The statements of the cuts are the script, and the first bad cut is the place of its fault.
-use Rattle.std.proofs.Common.{◌≡◌, ℕ, zero, suc, ◌+◌, ◌<◌, ◌≤◌, Bool, true, false, List, [], ◌∷◌, ◌++◌, length, map, Option, Some, None, Result, Ok, Err, refl, ap, sym, subst, ◌∙◌, arith, append_assoc}
+use Rattle.std.proofs.Common.{◌≡◌, ℕ, zero, suc, ◌<◌, Bool, true, false, List, [], ◌∷◌, ◌++◌, length, Option, Some, None, Result, Ok, Err, refl, ap, sym, subst, ◌∙◌, arith}
 use Rattle.std.proofs.lemmas.List.{append-nil}
-use Rattle.std.specs.Prelude.{if◌then◌else◌, ◌&&◌, not, count_by}
+use Rattle.std.specs.Prelude.{if◌then◌else◌, ◌&&◌, not}
 use Rattle.std.specs.List.{list_all}
 use Rattle.nova_pig_tree.specs.declared.statement.Body.{Body}
 use Rattle.nova_pig_tree.specs.declared.statement.Body.TheVariants as body
@@ -14,12 +14,12 @@ use Rattle.nova_pig_tree.specs.declared.token.Word.TheVariants as w
 use Rattle.nova_pig_tree.specs.declared.token.Placed.{Placed}
 use Rattle.nova_pig_parse.specs.declared.text.ParseFault.{ParseFault}
 use Rattle.nova_pig_parse.specs.declared.text.ParseFault.TheVariants as fault
-use Rattle.nova_pig_parse.specs.Limits.{is_semicolon, semicolons}
+use Rattle.nova_pig_parse.specs.Limits.{is_semicolon}
 use Rattle.nova_pig_parse.specs.Script.{tokens_of, spanned, IsScript, empty, store, define, HasNoSemicolon, IsFirstCut, closed, unclosed, place, MayStand, SyntaxAt, here, later}
 use Rattle.nova_pig_statement.specs.Statement as st
 use Rattle.nova_pig_statement.specs.Statement.{IsStatement, IsOp}
 use Rattle.nova_pig_statement.specs.Reads.{body_of}
-use Rattle.nova_pig_parse.specs.Parse.{onto_first, cuts, is_store, kept, answer_of, read_cut, Statements, and_more, is_none, statements}
+use Rattle.nova_pig_parse.specs.Parse.{onto_first, cuts, kept, answer_of, read_cut, Statements, and_more, is_none, statements}
 use Rattle.nova_pig_statement.proofs.Clear.{clear, op-clear}
 use Rattle.nova_pig_statement.proofs.Cut.{cut-complete}
 use Rattle.nova_pig_statement.proofs.Whole.{cut-sound}

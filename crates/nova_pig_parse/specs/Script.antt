@@ -1,6 +1,6 @@
 -- The grammar of scripts, and the faults of a text in their order, as relations.
 use Rattle.std.specs.List.{list_all}
-use Rattle.std.specs.Prelude.{◌≡◌, ◌⊎◌, ℕ, ◌<◌, ◌≤◌, Bool, true, false, not, if◌then◌else◌, nat_lt, List, [], ◌∷◌, ◌++◌, length, map, Option, Some, None}
+use Rattle.std.specs.Prelude.{◌≡◌, ◌⊎◌, ℕ, ◌<◌, ◌≤◌, true, not, if◌then◌else◌, nat_lt, List, [], ◌∷◌, ◌++◌, length, map, Some, None}
 use Rattle.nova_pig_tree.specs.declared.statement.Body.{Body}
 use Rattle.nova_pig_tree.specs.declared.statement.Body.TheVariants as body
 use Rattle.nova_pig_tree.specs.declared.statement.Op.{Op}

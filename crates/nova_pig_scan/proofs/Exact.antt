@@ -1,5 +1,5 @@
 -- The tokens and the first fault of a text are those that the relations say.
-use Rattle.std.proofs.Common.{◌≡◌, ℕ, zero, suc, ◌+◌, ◌-◌, ◌<◌, ◌≤◌, List, [], ◌∷◌, ◌++◌, length, take, drop, Result, Ok, Err, refl, ap, sym, subst, ◌∙◌, arith, length-drop, length-take-le, take-append-drop, IfOk, MatchResult, inl, inr, ◌⊎◌}
+use Rattle.std.proofs.Common.{◌≡◌, ℕ, zero, suc, ◌+◌, ◌<◌, ◌≤◌, List, [], ◌∷◌, ◌++◌, length, take, drop, Ok, Err, refl, ap, sym, subst, ◌∙◌, arith, length-drop, length-take-le, take-append-drop, IfOk, MatchResult, inl, inr, ◌⊎◌}
 use Rattle.std.proofs.lemmas.List.{append-nil}
 use Rattle.std.proofs.Math.Seq.{drop-append_seam}
 use Rattle.nova_pig_tree.specs.declared.token.Token.{Token}
@@ -8,7 +8,6 @@ use Rattle.nova_pig_scan.specs.declared.scan.Cause.TheVariants as cause
 use Rattle.nova_pig_scan.specs.declared.piece.Piece.{Piece}
 use Rattle.nova_pig_scan.specs.declared.piece.Piece.TheVariants.{End, Skip, Take, TooLarge, Bad}
 use Rattle.nova_pig_tree.specs.declared.token.Placed.{Placed}
-use Rattle.nova_pig_scan.specs.declared.scan.TextFault.{TextFault}
 use Rattle.nova_pig_scan.specs.declared.scan.TextFault.TheVariants.{At, Memory}
 use Rattle.nova_pig_scan.specs.Lexemes.{Text, Lexeme, IsLexeme}
 use Rattle.nova_pig_scan.specs.Lexemes as lexeme

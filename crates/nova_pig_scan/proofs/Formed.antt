@@ -1,23 +1,22 @@
 -- The piece in front of a text is a lexeme.
-use Rattle.std.proofs.Common.{◌≡◌, ℕ, zero, suc, ◌+◌, ◌<◌, ◌≤◌, Bool, true, false, List, [], ◌∷◌, ◌++◌, length, take, drop, Option, Some, None, refl, ap, sym, subst, ◌∙◌, arith, cond, pos, length-append, append_assoc, take-append-drop, take-add, MatchOption}
+use Rattle.std.proofs.Common.{◌≡◌, ℕ, zero, suc, ◌+◌, Bool, true, false, [], ◌∷◌, ◌++◌, take, drop, Option, Some, None, refl, ap, sym, subst, ◌∙◌, arith, cond, take-add, MatchOption}
 use Rattle.std.proofs.lemmas.Bool.{eqb-true}
 use Rattle.std.specs.Prelude.{if◌then◌else◌, ◌&&◌, ◌||◌, ◌==◌, not}
-use Rattle.std.specs.List.{list_all, prefix_len}
+use Rattle.std.specs.List.{list_all}
 use Rattle.std.specs.Char.{is_ascii_alphabetic, is_ascii_digit}
 use Rattle.nova_pig_tree.specs.declared.expression.CompareOp.TheVariants as c
 use Rattle.nova_pig_tree.specs.declared.token.Symbol.{Symbol}
 use Rattle.nova_pig_tree.specs.declared.token.Symbol.TheVariants as s
-use Rattle.nova_pig_tree.specs.declared.token.Token.{Token}
 use Rattle.nova_pig_tree.specs.declared.token.Token.TheVariants as t
 use Rattle.nova_pig_scan.specs.declared.lex.Class.{Class}
 use Rattle.nova_pig_scan.specs.declared.lex.Class.TheVariants as class
 use Rattle.nova_pig_scan.specs.declared.lex.Step.TheVariants as st
 use Rattle.nova_pig_scan.specs.declared.piece.Piece.{Piece}
 use Rattle.nova_pig_scan.specs.declared.piece.Piece.TheVariants as p
-use Rattle.nova_pig_scan.specs.Lexemes.{Text, is_blank, is_newline, is_word, begins, is_unclosed, IsName, IsDigits, value, sign, is_escaped, is_plain, Spells, nothing, plain, escape, Lexeme, Gap, Is, TooLarge, number_of, position_of, IsLexeme, blank, line_comment, block_comment, number as is_number, long_number, position as is_position, literal as is_literal, symbol as is_symbol}
-use Rattle.nova_pig_scan.specs.Lex.{class_of, line_len, block, two_more, word_len, digit_len, capped, literal, literal_by, with_byte, further, step_of, symbol_by, single_symbol}
+use Rattle.nova_pig_scan.specs.Lexemes.{Text, is_blank, is_newline, is_word, begins, is_unclosed, IsDigits, value, sign, is_escaped, is_plain, Spells, nothing, plain, escape, Lexeme, Gap, Is, TooLarge, number_of, position_of, IsLexeme, blank, line_comment, block_comment, number as is_number, long_number, position as is_position, literal as is_literal, symbol as is_symbol}
+use Rattle.nova_pig_scan.specs.Lex.{class_of, line_len, block, two_more, word_len, digit_len, capped, literal, literal_by, symbol_by, single_symbol}
 use Rattle.nova_pig_scan.specs.Tokens.{piece, piece_by, dash, slash, word, numeral, number, position, quoted, word_token, comment, symbol_piece}
-use Rattle.nova_pig_scan.proofs.RunLengths.{and_left, and_right, both, not_not, twice, run_passes}
+use Rattle.nova_pig_scan.proofs.RunLengths.{and_left, and_right, both, twice, run_passes}
 use Rattle.nova_pig_scan.proofs.Words.{name_lexeme}
 use Rattle.nova_pig_scan.proofs.Fits.{piece_of, numeral_of, place_of}
 

@@ -1,5 +1,5 @@
 -- A recursion on a list, at a place of it.
-use Rattle.std.proofs.Common.{◌≡◌, ℕ, suc, ◌+◌, ◌<◌, ◌≤◌, Bool, true, false, List, [], ◌∷◌, length, drop, get_or, Option, Some, None, refl, ap, ◌∙◌, arith, add-one, drop-cons, rules}
+use Rattle.std.proofs.Common.{◌≡◌, ℕ, ◌+◌, ◌<◌, ◌≤◌, Bool, true, false, [], ◌∷◌, length, drop, get_or, Option, Some, None, refl, ap, ◌∙◌, arith, add-one, drop-cons, rules}
 use Rattle.std.proofs.Math.ListN.{drop_of_length-le}
 use Rattle.nova_pig_scan.specs.Lexemes.{Text, begins}
 use Rattle.nova_pig_scan.specs.Lex.{literal, literal_by, step_of, block, two_more, from_place}

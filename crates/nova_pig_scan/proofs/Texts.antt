@@ -1,13 +1,12 @@
 -- Names and the insides of literals are text values.
-use Rattle.std.proofs.Common.{◌≡◌, ℕ, zero, suc, ◌+◌, ◌<◌, ◌≤◌, Bool, true, false, List, [], ◌∷◌, ◌++◌, length, take, drop, get_or, Option, Some, None, refl, ap, sym, subst, ◌∙◌, arith, add-one, drop-cons, drop-drop, drop_of_length-le, MatchOption}
-use Rattle.std.proofs.lemmas.Grind.{common_steps}
+use Rattle.std.proofs.Common.{◌≡◌, ℕ, zero, suc, ◌+◌, ◌<◌, ◌≤◌, Bool, true, false, List, [], ◌∷◌, ◌++◌, length, take, drop, get_or, Option, Some, None, refl, ap, sym, subst, ◌∙◌, arith, drop-cons, drop-drop, drop_of_length-le, MatchOption}
 use Rattle.std.proofs.lemmas.Bool.Decides.{nat_tests}
 use Rattle.std.proofs.lemmas.Bool.{eqb-true}
-use Rattle.std.specs.Prelude.{if◌then◌else◌, ◌&&◌, ◌||◌, ◌==◌, not, nat_lt, encode_utf8, encode_utf8_all}
-use Rattle.std.specs.List.{list_all, prefix_len}
+use Rattle.std.specs.Prelude.{if◌then◌else◌, ◌||◌, ◌==◌, not, nat_lt, encode_utf8, encode_utf8_all}
+use Rattle.std.specs.List.{list_all}
 use Rattle.std.specs.Char.{is_ascii_alphabetic}
 use Rattle.std.specs.Str.{IsUtf8, is_utf8, IsAscii}
-use Rattle.std.proofs.lemmas.Str.{IsUtf8-nil, IsUtf8-append, IsUtf8-drop, IsUtf8-encode, IsUtf8-from_ascii, IsUtf8-from_is_utf8, is_utf8-from_IsUtf8, IsCharBoundary-after_ascii, encode_ascii, inside_one, len_utf8_bounds, length-encode}
+use Rattle.std.proofs.lemmas.Str.{IsUtf8-nil, IsUtf8-append, IsUtf8-drop, IsUtf8-encode, IsUtf8-from_ascii, is_utf8-from_IsUtf8, IsCharBoundary-after_ascii, encode_ascii, inside_one, len_utf8_bounds, length-encode}
 use Rattle.std.proofs.Math.Utf8.{scalar, scalars}
 use Rattle.std.specs.Char.{IsScalar, len_utf8}
 use Rattle.std.proofs.lemmas.List.{append-nil}
@@ -15,7 +14,7 @@ use Rattle.nova_value.specs.Text.{is_clean, IsText}
 use Rattle.nova_pig_scan.specs.declared.lex.Step.{Step}
 use Rattle.nova_pig_scan.specs.declared.lex.Step.TheVariants as st
 use Rattle.nova_pig_scan.specs.Lexemes.{Text, IsName, is_word, begins, is_escaped}
-use Rattle.nova_pig_scan.specs.Lex.{word_len, literal, literal_by, with_byte, further, step_of}
+use Rattle.nova_pig_scan.specs.Lex.{word_len, literal, literal_by, with_byte, step_of}
 use Rattle.nova_pig_scan.proofs.RunLengths.{and_left, and_right, both, twice, run_passes}
 
 -- names

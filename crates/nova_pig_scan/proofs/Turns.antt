@@ -1,25 +1,21 @@
 -- The tokens of a text, by the piece in front.
-use Rattle.std.proofs.Common.{◌≡◌, ℕ, zero, suc, ◌+◌, ◌-◌, ◌<◌, ◌≤◌, Bool, true, false, List, [], ◌∷◌, ◌++◌, length, take, drop, Option, Some, None, Result, Ok, Err, refl, ap, sym, ◌∙◌, arith, rules, add-one, add-zero, append_assoc, length-drop, cond, MatchOption}
-use Rattle.std.proofs.lemmas.Grind.{common_steps}
-use Rattle.std.specs.Prelude.{if◌then◌else◌, ◌&&◌, ◌||◌, ◌==◌, not}
+use Rattle.std.proofs.Common.{◌≡◌, ℕ, zero, suc, ◌+◌, ◌-◌, ◌<◌, ◌≤◌, Bool, true, false, List, [], ◌∷◌, ◌++◌, length, take, drop, Option, Some, None, Ok, Err, refl, ap, sym, ◌∙◌, arith, add-zero, append_assoc, length-drop, MatchOption}
+use Rattle.std.specs.Prelude.{if◌then◌else◌, ◌&&◌, ◌||◌, ◌==◌}
 use Rattle.std.proofs.lemmas.List.{drop-drop}
 use Rattle.std.proofs.lemmas.List.Sums.{prefix_len-le-length}
-use Rattle.std.specs.Char.{is_ascii_digit}
 use Rattle.nova_pig_tree.specs.declared.token.Token.{Token}
 use Rattle.nova_pig_tree.specs.declared.token.Symbol.{Symbol}
 use Rattle.nova_pig_scan.specs.declared.lex.Class.{Class}
 use Rattle.nova_pig_scan.specs.declared.lex.Class.TheVariants as class
 use Rattle.nova_pig_scan.specs.declared.lex.Step.{Step}
 use Rattle.nova_pig_scan.specs.declared.lex.Step.TheVariants as st
-use Rattle.nova_pig_scan.specs.declared.scan.Cause.{Cause}
 use Rattle.nova_pig_scan.specs.declared.piece.Piece.{Piece}
 use Rattle.nova_pig_scan.specs.declared.piece.Piece.TheVariants.{End, Skip, Take, TooLarge, Bad}
 use Rattle.nova_pig_tree.specs.declared.token.Placed.{Placed}
-use Rattle.nova_pig_scan.specs.declared.scan.TextFault.{TextFault}
-use Rattle.nova_pig_scan.specs.Lex.{class_of, line_len, block, two_more, word_len, digit_len, capped, literal, literal_by, with_byte, further, step_of, symbol, symbol_by, single_symbol}
-use Rattle.nova_pig_scan.specs.Lexemes.{Text, begins, is_word}
+use Rattle.nova_pig_scan.specs.Lex.{class_of, line_len, block, two_more, word_len, digit_len, capped, literal, literal_by, step_of, symbol_by, single_symbol}
+use Rattle.nova_pig_scan.specs.Lexemes.{Text, begins}
 use Rattle.nova_pig_scan.specs.Text.{placed}
-use Rattle.nova_pig_scan.specs.Tokens.{Outcome, piece, piece_by, dash, comment, slash, word, number, numeral, position, quoted, symbol_piece, scan, scan_by, tokens, onto, after, next, Within}
+use Rattle.nova_pig_scan.specs.Tokens.{Outcome, piece, piece_by, dash, comment, slash, numeral, position, quoted, symbol_piece, scan, scan_by, onto, after, next, Within}
 
 -- the bytes inside a piece are passed over
 pub scan_inside : (n at : ℕ) (text : Text) → scan n at text ≡ scan 0 (at + n) (drop n text)

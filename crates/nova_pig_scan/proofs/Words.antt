@@ -1,18 +1,13 @@
 -- Which token a name is.
-use Rattle.std.proofs.Common.{◌≡◌, ℕ, zero, suc, ◌+◌, ◌<◌, ◌≤◌, Bool, true, false, List, [], ◌∷◌, ◌++◌, length, map, Option, Some, None, refl, ap, sym, subst, ◌∙◌, arith, cond}
-use Rattle.std.proofs.lemmas.Grind.{common_steps}
-use Rattle.std.proofs.lemmas.Bool.Decides.{nat_tests}
+use Rattle.std.proofs.Common.{◌≡◌, Bool, true, false, List, [], ◌∷◌, map, Option, Some, None, refl, ap, sym, ◌∙◌}
 use Rattle.std.proofs.lemmas.Slice.Eq.{bytes_eq-Decides}
-use Rattle.std.specs.Prelude.{if◌then◌else◌, ◌&&◌, ◌||◌, ◌==◌, not}
-use Rattle.std.specs.List.{list_all}
-use Rattle.std.specs.Char.{is_ascii_alphabetic, is_ascii_digit}
-use Rattle.std.specs.Str.{str_to_ascii_lowercase, str_eq_ignore_ascii_case, bytes_eq}
+use Rattle.std.specs.Prelude.{if◌then◌else◌, ◌&&◌}
+use Rattle.std.specs.Str.{str_to_ascii_lowercase, bytes_eq}
 use Rattle.nova_pig_tree.specs.declared.token.Word.{Word}
 use Rattle.nova_pig_tree.specs.declared.token.Word.TheVariants as w
-use Rattle.nova_pig_tree.specs.declared.token.Token.{Token}
 use Rattle.nova_pig_tree.specs.declared.token.Token.TheVariants as t
 use Rattle.nova_pig_scan.specs.declared.lex.TheConstants.{KEYWORDS}
-use Rattle.nova_pig_scan.specs.Lexemes.{Text, IsName, is_word, spelling, group_word, name_of, IsLexeme, Is, identifier, keyword as is_keyword, group}
+use Rattle.nova_pig_scan.specs.Lexemes.{Text, IsName, spelling, group_word, name_of, IsLexeme, Is, identifier, keyword as is_keyword, group}
 use Rattle.nova_pig_scan.specs.Lex.{lookup, keyword}
 use Rattle.nova_pig_scan.specs.Tokens.{word_token, keyword_or}
 

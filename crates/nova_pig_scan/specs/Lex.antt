@@ -1,7 +1,7 @@
 -- The runs of bytes that pieces are made of, as the code finds them.
-use Rattle.std.specs.Prelude.{◌≡◌, ℕ, zero, suc, ◌+◌, ◌-◌, ◌*◌, min, Bool, true, false, not, ◌&&◌, ◌||◌, if◌then◌else◌, ◌==◌, List, [], ◌∷◌, ◌++◌, length, map, fold, Option, Some, None, Result, Ok, Err, codes}
+use Rattle.std.specs.Prelude.{◌≡◌, ℕ, ◌+◌, min, Bool, true, false, not, ◌&&◌, ◌||◌, if◌then◌else◌, ◌==◌, List, [], ◌∷◌, ◌++◌, map, Option, Some, None, Result, Ok, Err}
 use Rattle.std.specs.List.{position_or_len}
-use Rattle.std.specs.Char.{is_ascii_digit, is_ascii_alphanumeric, is_ascii_alphabetic}
+use Rattle.std.specs.Char.{is_ascii_digit, is_ascii_alphabetic}
 use Rattle.std.specs.Str.{str_eq_ignore_ascii_case}
 use Rattle.nova_pig_tree.specs.declared.token.Word.{Word}
 use Rattle.nova_pig_tree.specs.declared.token.Symbol.{Symbol}
@@ -14,7 +14,7 @@ use Rattle.nova_pig_scan.specs.declared.lex.Step.TheVariants as st
 use Rattle.nova_pig_scan.specs.declared.lex.LexFault.{LexFault}
 use Rattle.nova_pig_scan.specs.declared.lex.LexFault.TheVariants.{Token, Memory}
 use Rattle.nova_pig_scan.specs.declared.lex.TheConstants.{KEYWORDS}
-use Rattle.nova_pig_scan.specs.Lexemes.{Text, is_word, is_blank, is_newline, begins, value, is_escaped, is_plain}
+use Rattle.nova_pig_scan.specs.Lexemes.{Text, is_word, is_blank, is_newline, begins, value, is_escaped}
 
 -- the letters, digits and `_` in front
 abbrev pub word_len : Text → ℕ

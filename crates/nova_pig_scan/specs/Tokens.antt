@@ -1,5 +1,5 @@
 -- The tokens of a text, each with its place.
-use Rattle.std.specs.Prelude.{◌≡◌, ℕ, zero, suc, ◌+◌, ◌-◌, ◌<◌, ◌≤◌, Bool, true, false, not, ◌&&◌, ◌||◌, if◌then◌else◌, ◌==◌, List, [], ◌∷◌, ◌++◌, length, take, drop, Option, Some, None, Result, Ok, Err, pos}
+use Rattle.std.specs.Prelude.{◌≡◌, ℕ, zero, suc, ◌+◌, ◌-◌, ◌<◌, ◌≤◌, false, ◌||◌, if◌then◌else◌, ◌==◌, List, [], ◌∷◌, ◌++◌, take, drop, Option, Some, None, Result, Ok, Err, pos}
 use Rattle.std.specs.Str.{str_eq_ignore_ascii_case, bytes_eq}
 use Rattle.nova_pig_tree.specs.declared.token.Word.{Word}
 use Rattle.nova_pig_tree.specs.declared.token.Symbol.{Symbol}
@@ -8,7 +8,6 @@ use Rattle.nova_pig_tree.specs.declared.token.Token.{Token}
 use Rattle.nova_pig_tree.specs.declared.token.Token.TheVariants as t
 use Rattle.nova_pig_scan.specs.declared.lex.Class.{Class}
 use Rattle.nova_pig_scan.specs.declared.lex.Class.TheVariants as class
-use Rattle.nova_pig_scan.specs.declared.scan.Cause.{Cause}
 use Rattle.nova_pig_scan.specs.declared.scan.Cause.TheVariants as cause
 use Rattle.nova_pig_scan.specs.declared.piece.Piece.{Piece}
 use Rattle.nova_pig_scan.specs.declared.piece.Piece.TheVariants.{End, Skip, Take, TooLarge, Bad}

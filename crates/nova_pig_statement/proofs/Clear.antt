@@ -1,5 +1,5 @@
 -- No `;` stands inside a statement.
-use Rattle.std.proofs.Common.{◌≡◌, ℕ, Bool, true, false, List, [], ◌∷◌, ◌++◌, Option, Some, None, refl, ap, sym, ◌∙◌}
+use Rattle.std.proofs.Common.{◌≡◌, ℕ, Bool, true, false, List, [], ◌∷◌, ◌++◌, Option, Some, refl, ap, ◌∙◌}
 use Rattle.std.specs.Prelude.{not, ◌&&◌}
 use Rattle.std.specs.List.{list_all}
 use Rattle.nova_pig_tree.specs.declared.expression.Expr.{Expr}
@@ -7,7 +7,7 @@ use Rattle.nova_pig_tree.specs.declared.expression.Field.{Field}
 use Rattle.nova_pig_tree.specs.declared.statement.Item.{Item}
 use Rattle.nova_pig_tree.specs.declared.statement.Op.{Op}
 use Rattle.nova_pig_tree.specs.declared.token.Token.{Token}
-use Rattle.nova_pig_tree.specs.declared.token.Token.TheVariants.{Ident, Word, Group, Number, Position, Literal, Symbol}
+use Rattle.nova_pig_tree.specs.declared.token.Token.TheVariants.{Ident, Word, Symbol}
 use Rattle.nova_pig_tree.specs.declared.token.Symbol.TheVariants as s
 use Rattle.nova_pig_tree.specs.declared.token.Word.TheVariants as w
 use Rattle.nova_value.specs.declared.value.Kind.{Kind}

@@ -1,9 +1,9 @@
 -- Lists with commas are read exactly.
-use Rattle.std.proofs.Common.{◌≡◌, ℕ, zero, suc, ◌+◌, ◌<◌, ◌≤◌, Bool, true, false, List, [], ◌∷◌, ◌++◌, length, Option, Some, None, refl, ap, sym, subst, ◌∙◌, arith, append_assoc}
+use Rattle.std.proofs.Common.{◌≡◌, ℕ, zero, suc, false, List, [], ◌∷◌, ◌++◌, length, Some, ap, sym, subst, ◌∙◌, append_assoc}
 use Rattle.nova_pig_tree.specs.declared.token.Token.{Token}
-use Rattle.nova_pig_tree.specs.declared.token.Token.TheVariants.{Ident, Word, Group, Number, Position, Literal, Symbol}
+use Rattle.nova_pig_tree.specs.declared.token.Token.TheVariants.{Symbol}
 use Rattle.nova_pig_tree.specs.declared.token.Symbol.TheVariants as s
-use Rattle.nova_pig_expr.specs.Reading.{Reading, Reader, and_then}
+use Rattle.nova_pig_expr.specs.Reading.{Reader, and_then}
 use Rattle.nova_pig_expr.proofs.Steps.{bound, same_rest, same_value}
 use Rattle.nova_pig_statement.specs.Reads.{more_by, more, listed, begins_comma}
 use Rattle.nova_pig_statement.specs.Statement.{Tail, none, next, Listed, begin}

@@ -1,7 +1,7 @@
 -- Lists with commas between.
-use Rattle.std.proofs.Common.{◌≡◌, ℕ, zero, suc, ◌+◌, ◌<◌, ◌≤◌, Bool, true, false, List, [], ◌∷◌, ◌++◌, length, Option, Some, None, Result, Ok, Err, refl, ap, sym, ◌∙◌, arith, append_assoc}
+use Rattle.std.proofs.Common.{◌≡◌, ℕ, zero, suc, ◌<◌, ◌≤◌, false, List, [], ◌∷◌, ◌++◌, length, Some, None, Err, refl, ap, sym, ◌∙◌, arith, append_assoc}
 use Rattle.nova_pig_tree.specs.declared.token.Token.{Token}
-use Rattle.nova_pig_tree.specs.declared.token.Token.TheVariants.{Ident, Word, Group, Number, Position, Literal, Symbol}
+use Rattle.nova_pig_tree.specs.declared.token.Token.TheVariants.{Symbol}
 use Rattle.nova_pig_tree.specs.declared.token.Symbol.TheVariants as s
 use Rattle.nova_pig_expr.specs.declared.fault.Fault.{Fault}
 use Rattle.nova_pig_expr.specs.declared.fault.Fault.TheVariants.{Syntax, Memory}

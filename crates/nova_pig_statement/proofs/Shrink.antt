@@ -1,14 +1,12 @@
 -- Readers add no tokens.
-use Rattle.std.proofs.Common.{◌≡◌, ℕ, zero, suc, ◌+◌, ◌<◌, ◌≤◌, Bool, true, false, List, [], ◌∷◌, length, Option, Some, None, refl, ap, sym, ◌∙◌, arith}
+use Rattle.std.proofs.Common.{◌≡◌, ◌<◌, true, ◌∷◌, length, Option, Some, None, arith}
 use Rattle.nova_value.specs.declared.value.Kind.{Kind}
-use Rattle.nova_pig_tree.specs.declared.statement.Item.{Item}
 use Rattle.nova_pig_tree.specs.declared.statement.Item.TheVariants as item
-use Rattle.nova_pig_tree.specs.declared.token.Token.{Token}
-use Rattle.nova_pig_tree.specs.declared.token.Token.TheVariants.{Ident, Word, Group, Number, Position, Literal, Symbol}
+use Rattle.nova_pig_tree.specs.declared.token.Token.TheVariants.{Ident, Word, Group, Symbol}
 use Rattle.nova_pig_tree.specs.declared.token.Word.TheVariants as w
 use Rattle.nova_pig_tree.specs.declared.token.Symbol.TheVariants as s
 use Rattle.nova_pig_expr.specs.Grammar.{whole}
-use Rattle.nova_pig_expr.specs.Reading.{Reading, Reader, and_then, read, At, field_at}
+use Rattle.nova_pig_expr.specs.Reading.{and_then, read, At, field_at}
 use Rattle.nova_pig_expr.proofs.Steps.{bound, same_rest, read-shrinks, field_at-shrinks}
 use Rattle.nova_pig_statement.specs.Reads.{kind_of, some_kind, kind_at, label_at, flatten_at, value_at, item_at, name_at}
 use Rattle.nova_pig_statement.proofs.Lists.{NoLonger}

@@ -1,36 +1,28 @@
 -- Statements are read exactly.
-use Rattle.std.proofs.Common.{◌≡◌, ℕ, zero, suc, ◌+◌, ◌<◌, ◌≤◌, Bool, true, false, List, [], ◌∷◌, ◌++◌, length, Option, Some, None, refl, ap, sym, subst, ◌∙◌, arith, append_assoc}
-use Rattle.nova_value.specs.declared.value.Kind.{Kind}
+use Rattle.std.proofs.Common.{◌≡◌, ℕ, List, [], ◌∷◌, ◌++◌, Some, None, refl, ap, sym, subst, ◌∙◌, append_assoc}
 use Rattle.nova_pig_tree.specs.declared.expression.Field.{Field}
-use Rattle.nova_pig_tree.specs.declared.statement.Item.{Item}
-use Rattle.nova_pig_tree.specs.declared.statement.Item.TheVariants as item
 use Rattle.nova_pig_tree.specs.declared.statement.Op.{Op}
 use Rattle.nova_pig_tree.specs.declared.statement.Op.TheVariants as op
-use Rattle.nova_pig_tree.specs.declared.expression.Expr.{Expr}
 use Rattle.nova_pig_tree.specs.declared.token.Token.{Token}
-use Rattle.nova_pig_tree.specs.declared.token.Token.TheVariants.{Ident, Word, Group, Number, Position, Literal, Symbol}
+use Rattle.nova_pig_tree.specs.declared.token.Token.TheVariants.{Ident, Word, Group, Literal, Symbol}
 use Rattle.nova_pig_tree.specs.declared.token.Word.TheVariants as w
 use Rattle.nova_pig_tree.specs.declared.token.Symbol.TheVariants as s
-use Rattle.nova_pig_expr.specs.Grammar as g
-use Rattle.nova_pig_expr.specs.Grammar.{Part, Derives, IsField, whole}
-use Rattle.nova_pig_expr.specs.Reading.{Reading, Reader, and_then, read, At, field_at}
+use Rattle.nova_pig_expr.specs.Grammar.{IsField, whole}
+use Rattle.nova_pig_expr.specs.Reading.{Reading, and_then, read, At, field_at}
 use Rattle.nova_pig_expr.proofs.Steps.{bound, same_rest, same_value}
 use Rattle.nova_pig_expr.proofs.Sound.{read-sound, field_at-sound}
-use Rattle.nova_pig_expr.proofs.Complete.{read-complete, field-read, Stops}
-use Rattle.nova_pig_statement.specs.Reads.{listed, kind_of, some_kind, kind_at, label_at, flatten_at, value_at, item_at, name_at, columns_at, shut, by_at, generate_at, filter_at, foreach_at, op_at, begins_comma, group_at, join_at, union_at, two, comma_at, ended, define_at, store_at, cut_at, body_of, all_of, text_at}
+use Rattle.nova_pig_statement.specs.Reads.{listed, item_at, name_at, columns_at, shut, by_at, generate_at, op_at, two, comma_at, ended, cut_at, body_of, all_of}
 use Rattle.nova_pig_statement.specs.Statement as st
 use Rattle.nova_pig_statement.specs.Statement.{Listed, IsLabel, IsItem, IsColumns, IsName, IsOp, Ended, IsStatement}
 use Rattle.nova_pig_tree.specs.declared.statement.Body.{Body}
 use Rattle.nova_pig_tree.specs.declared.statement.Body.TheVariants as body
-use Rattle.nova_pig_statement.proofs.Parts.{ended-stops, items-complete, items-sound, foreach-complete}
+use Rattle.nova_pig_statement.proofs.Parts.{items-sound}
 use Rattle.std.proofs.Common.{Result, Ok, Err, IfOk, MatchResult}
 use Rattle.nova_pig_expr.specs.declared.fault.Fault.{Fault}
 use Rattle.nova_pig_expr.specs.declared.fault.Fault.TheVariants.{Syntax, Memory}
 use Rattle.nova_pig_statement.specs.Reads.{IsBodyOf}
 use Rattle.nova_pig_statement.proofs.Cut.{cut-complete}
-use Rattle.nova_pig_statement.proofs.Lists.{NoLonger}
-use Rattle.nova_pig_statement.proofs.Shrink.{item-no_longer, field-no_longer, name-no_longer}
-use Rattle.nova_pig_statement.proofs.Listing.{Sound, Complete, joined, listed-sound, listed-complete}
+use Rattle.nova_pig_statement.proofs.Listing.{Sound, joined, listed-sound}
 
 column-other : (ts : List Token) (fs : List Field) (rest : List Token) → and_then (field_at ts) (λ a us. Some (a ∷ [], us)) ≡ Some (fs, rest)
     → (front : List Token) × (ts ≡ front ++ rest) × IsColumns front fs

@@ -82,7 +82,6 @@ pub struct Script {
 impl Model for Script {
     ghost use Rattle.std.specs.Prelude.{List};
     ghost use Rattle.nova_pig_tree.specs.declared.statement.Statement.{Statement as S};
-
     ghost use Rattle.nova_pig_tree.specs.contracts.expression.Expr as e;
     ghost use Rattle.std.specs.Coded.{codes};
 

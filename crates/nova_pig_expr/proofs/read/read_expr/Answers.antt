@@ -1,4 +1,4 @@
-use Rattle.std.proofs.Common.{rules, arith, ◌≡◌, sym, map, ◌∙◌}
+use Rattle.std.proofs.Common.{rules, arith, map}
 use Rattle.std.proofs.lemmas.Grind.{common_steps}
 use Rattle.nova_pig_expr.proofs.Whole.{all_sound, all_value, all_rest, all_fault}
 use Rattle.nova_pig_expr.proofs.read.read_expr.Goals as goal

@@ -1,5 +1,5 @@
 -- The counter finds the first 65th token of a piece.
-use Rattle.std.proofs.Common.{rules, arith, sym, ◌∙◌}
+use Rattle.std.proofs.Common.{rules, arith, sym}
 use Rattle.std.proofs.lemmas.Grind.{common_steps}
 use Rattle.nova_pig_parse.specs.Parse.{too_deep}
 use Rattle.nova_pig_parse.proofs.Deep.{deep_law}

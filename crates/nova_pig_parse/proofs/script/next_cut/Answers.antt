@@ -1,6 +1,6 @@
-use Rattle.std.proofs.Common.{rules, arith, ◌≡◌, ◌≤◌, ◌<◌, length, sym, ap, ◌∙◌}
+use Rattle.std.proofs.Common.{rules, arith, ◌≤◌, ◌<◌, length}
 use Rattle.std.proofs.lemmas.Grind.{common_steps}
-use Rattle.nova_pig_parse.specs.Parse.{before_semicolon, cuts}
+use Rattle.nova_pig_parse.specs.Parse.{before_semicolon}
 use Rattle.nova_pig_parse.proofs.Cuts.{cuts_some, cuts_whole}
 use Rattle.nova_pig_parse.proofs.script.next_cut.Goals as goal
 

@@ -1,4 +1,4 @@
-use Rattle.std.proofs.Common.{rules, arith, ◌≡◌, ◌≤◌, ◌<◌, length, sym, ap, ◌∙◌}
+use Rattle.std.proofs.Common.{rules, arith, sym, ap, ◌∙◌}
 use Rattle.std.proofs.lemmas.Grind.{common_steps}
 use Rattle.nova_pig_parse.specs.Parse.{statements, cuts, ahead, read_cut}
 use Rattle.nova_pig_parse.proofs.Cuts.{turn, fails, done, nil_of}

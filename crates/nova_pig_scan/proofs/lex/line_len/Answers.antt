@@ -1,4 +1,4 @@
-use Rattle.std.proofs.Common.{rules, arith, ◌≡◌, ◌<◌, length, sym}
+use Rattle.std.proofs.Common.{arith, ◌≡◌, length, sym}
 use Rattle.std.proofs.lemmas.Grind.{common_steps}
 use Rattle.std.proofs.lemmas.List.Sums.{position_or_len_is}
 use Rattle.nova_pig_scan.proofs.lex.line_len.Goals as goal

@@ -1,6 +1,5 @@
-use Rattle.std.proofs.Common.{◌≡◌, ℕ, ◌<◌, get_or, false, not}
+use Rattle.std.proofs.Common.{◌≡◌, ℕ, ◌<◌, get_or, false}
 use Rattle.std.specs.Prelude.{◌==◌}
-use Rattle.nova_pig_scan.specs.Lexemes.{is_word}
 use Rattle.nova_pig_scan.proofs.lex.line_len.Given as goal
 
 abbrev pub invariant-loop-i : goal.invariant-loop-i

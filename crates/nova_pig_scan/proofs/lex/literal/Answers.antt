@@ -1,4 +1,4 @@
-use Rattle.std.proofs.Common.{rules, arith, ◌≡◌}
+use Rattle.std.proofs.Common.{rules, arith}
 use Rattle.std.proofs.lemmas.Grind.{common_steps}
 use Rattle.nova_pig_scan.proofs.Runs.{literal_at, literal_end}
 use Rattle.nova_pig_scan.proofs.lex.literal.Goals as goal

@@ -1,5 +1,4 @@
 use Rattle.std.proofs.Common.{◌≡◌, ℕ, ◌<◌, get_or, false, not}
-use Rattle.std.specs.Prelude.{◌==◌}
 use Rattle.nova_pig_scan.specs.Lexemes.{is_word}
 use Rattle.nova_pig_scan.proofs.lex.word_len.Given as goal
 

@@ -1,5 +1,5 @@
 -- The letters, digits and `_` after a letter make a name with it.
-use Rattle.std.proofs.Common.{◌≡◌, ◌+◌, take, ap, sym, subst}
+use Rattle.std.proofs.Common.{◌+◌, take, sym, subst}
 use Rattle.nova_pig_scan.specs.Lexemes.{IsName}
 use Rattle.nova_pig_scan.proofs.Texts.{word_name}
 use Rattle.nova_pig_scan.proofs.piece.word.Goals as goal

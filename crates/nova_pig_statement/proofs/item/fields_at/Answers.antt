@@ -1,8 +1,8 @@
-use Rattle.std.proofs.Common.{rules, arith, ◌≡◌, ◌≤◌, Some, length, ap, sym, ◌∙◌}
+use Rattle.std.proofs.Common.{rules, arith, Some, length, ap, sym, ◌∙◌}
 use Rattle.std.proofs.lemmas.Grind.{common_steps}
-use Rattle.nova_pig_statement.specs.Reads.{listed, ahead, more}
+use Rattle.nova_pig_statement.specs.Reads.{ahead, more}
 use Rattle.nova_pig_expr.specs.Reading.{field_at}
-use Rattle.nova_pig_statement.proofs.Lists.{first, turn, fails, fault, last}
+use Rattle.nova_pig_statement.proofs.Lists.{turn, fault, last}
 use Rattle.nova_pig_statement.proofs.Shrink.{field-no_longer}
 use Rattle.nova_pig_statement.proofs.item.fields_at.Goals as goal
 

@@ -1,4 +1,4 @@
-use Rattle.std.proofs.Common.{rules, arith, ◌≡◌, ◌<◌}
+use Rattle.std.proofs.Common.{rules, arith}
 use Rattle.std.proofs.lemmas.Grind.{common_steps}
 use Rattle.nova_pig_expr.proofs.Next.{comp_at, left_at}
 use Rattle.nova_pig_expr.proofs.parser.Parser.+parser.Goals as goal

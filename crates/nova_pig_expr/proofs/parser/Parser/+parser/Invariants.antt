@@ -1,5 +1,5 @@
-use Rattle.std.proofs.Common.{◌≡◌, ℕ, ◌+◌, ◌-◌, ◌*◌, ◌<◌, ◌≤◌, length}
-use Rattle.nova_pig_expr.specs.Reading.{Answers, read, At, After, rank}
+use Rattle.std.proofs.Common.{◌≡◌, ◌+◌, ◌*◌, ◌<◌, length}
+use Rattle.nova_pig_expr.specs.Reading.{read, At, After, rank}
 use Rattle.nova_pig_expr.specs.Grammar.{Left, Neg, Comp, Unary, Primary, operand}
 use Rattle.nova_pig_expr.proofs.parser.Parser.+parser.Given as goal
 

@@ -1,6 +1,5 @@
-use Rattle.std.proofs.Common.{◌≡◌, ◌∷◌, length, true, false, None, Some, rules, arith, sym, ap, map, ◌∙◌}
+use Rattle.std.proofs.Common.{rules, sym, ap, map, ◌∙◌}
 use Rattle.std.proofs.lemmas.List.{length-map}
-use Rattle.nova_pig_expr.specs.Tests.{operator, comparison, is_not, is_minus}
 use Rattle.nova_pig_expr.proofs.Next as next
 use Rattle.nova_pig_expr.proofs.parser.Parser.comparison.Goals as goal
 

@@ -12,7 +12,7 @@ use Rattle.nova_pig_tree.specs.declared.token.Symbol.TheVariants as s
 use Rattle.nova_pig_expr.specs.declared.operators.Level.{Level}
 use Rattle.nova_pig_expr.specs.declared.operators.Level.TheVariants as l
 use Rattle.nova_pig_expr.specs.declared.operators.BinaryOp.{BinaryOp}
-use Rattle.nova_pig_expr.specs.Tests.{operator, combine, call_kind, group_word}
+use Rattle.nova_pig_expr.specs.Operators.{operator, combine, call_kind, group_word}
 use Rattle.nova_pig_expr.specs.Grammar as g
 use Rattle.nova_pig_expr.specs.Grammar.{Part, Left, Neg, Comp, Unary, Primary, operand, whole, Derives, IsField}
 use Rattle.nova_pig_expr.specs.Reading.{Reader, and_then, At, After, after_by, neg, compared, unary, closed, third, opened, field_after, group_after, field_at, refer, named_by, primary, step, rank, read}

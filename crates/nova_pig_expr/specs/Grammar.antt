@@ -13,7 +13,7 @@ use Rattle.nova_pig_tree.specs.declared.token.Symbol.TheVariants as s
 use Rattle.nova_pig_expr.specs.declared.operators.Level.{Level}
 use Rattle.nova_pig_expr.specs.declared.operators.Level.TheVariants as l
 use Rattle.nova_pig_expr.specs.declared.operators.BinaryOp.{BinaryOp}
-use Rattle.nova_pig_expr.specs.Tests.{operator, combine, call_kind, group_word}
+use Rattle.nova_pig_expr.specs.Operators.{operator, combine, call_kind, group_word}
 
 -- field = ident ["::" ident] | group [("::" | ".") ident] | position
 pub data IsField : List Token → Field → Type 0 where

@@ -15,7 +15,7 @@ use Rattle.nova_pig_tree.specs.declared.token.Symbol.TheVariants as s
 use Rattle.nova_pig_expr.specs.declared.operators.Level.{Level}
 use Rattle.nova_pig_expr.specs.declared.operators.Level.TheVariants as l
 use Rattle.nova_pig_expr.specs.declared.operators.BinaryOp.{BinaryOp}
-use Rattle.nova_pig_expr.specs.Tests.{operator, comparison, combine, call_kind, group_word}
+use Rattle.nova_pig_expr.specs.Operators.{operator, comparison, combine, call_kind, group_word}
 use Rattle.nova_pig_expr.specs.Grammar.{Part, Left, Neg, Comp, Unary, Primary, operand, whole}
 
 -- what is left after a part was read

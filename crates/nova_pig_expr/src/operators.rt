@@ -1,7 +1,7 @@
 //! What single tokens are to expressions.
 
 ghost use Rattle.std.specs.Prelude.{◌≡◌};
-ghost use Rattle.nova_pig_expr.specs.Tests as spec;
+ghost use Rattle.nova_pig_expr.specs.Operators as spec;
 
 use nova_pig_tree::{CallKind, CompareOp, Symbol, Token, Word};
 
@@ -70,7 +70,7 @@ pub fn is_open(token: &Token) -> bool
 }
 
 /// The call that begins with the name: `COUNT`, `SUM`, `MIN` or `MAX`, as they stand.
-#[tactic(auto, unfolding(crate::specs::Tests::call_kind))]
+#[tactic(auto, unfolding(crate::specs::Operators::call_kind))]
 pub fn call_kind(name: &[u8]) -> Option<CallKind>
     ensures { result ≡ spec.call_kind name.now }
 {

@@ -1,7 +1,7 @@
 //! Reads expressions from tokens.
 
 ghost use Rattle.std.specs.Prelude.{◌≡◌, ◌<◌, ◌↔◌, [], ◌∷◌, List, length, map, MatchOption, IsTrue, OnOk, IfOk};
-ghost use Rattle.nova_pig_expr.specs.Tests as tests;
+ghost use Rattle.nova_pig_expr.specs.Operators as spec;
 ghost use Rattle.nova_pig_tree.specs.declared.token.Token.{Token};
 ghost use Rattle.nova_pig_expr.specs.Reading.{Answers, Next, NextNot, NextMinus, NextComparison, NextOpen, NextMark, NextColon, NextClose, read, opened, named, single, field_after, group_after, field_at, call_field, call_after, At};
 ghost use Rattle.nova_pig_expr.specs.Grammar.{Left, Neg, Comp, Unary, Primary, operand, whole};
@@ -22,7 +22,7 @@ fn combine(
     a: Boxed<Expr>,
     b: Boxed<Expr>,
 ) -> Result<Boxed<Expr>, AllocError>
-    ensures { IfOk result (λ x. x ≡ tests.combine op a b) }
+    ensures { IfOk result (λ x. x ≡ spec.combine op a b) }
 {
     let made = match op {
         BinaryOp::Or => Expr::Or(a, b),
@@ -275,7 +275,7 @@ impl<'a> Parser<'a> {
 
     /// What follows `group`, where no dot does.
     fn group_field(&mut self, alloc: Global) -> Result<Field, Fault>
-        ensures { Answers (field_after tests.group_word self.old) result self.new }
+        ensures { Answers (field_after spec.group_word self.old) result self.new }
     {
         let group = Str::new(alloc, "group")?;
         self.field_after(alloc, &group)

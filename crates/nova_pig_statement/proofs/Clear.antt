@@ -14,7 +14,7 @@ use Rattle.nova_value.specs.declared.value.Kind.{Kind}
 use Rattle.nova_pig_expr.specs.declared.operators.Level.{Level}
 use Rattle.nova_pig_expr.specs.declared.operators.Level.TheVariants as l
 use Rattle.nova_pig_expr.specs.declared.operators.BinaryOp.{BinaryOp}
-use Rattle.nova_pig_expr.specs.Tests.{operator}
+use Rattle.nova_pig_expr.specs.Operators.{operator}
 use Rattle.nova_pig_expr.specs.Grammar as g
 use Rattle.nova_pig_expr.specs.Grammar.{Part, Derives, IsField}
 use Rattle.nova_pig_statement.specs.Statement.{is_semicolon}

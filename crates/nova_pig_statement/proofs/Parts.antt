@@ -16,7 +16,8 @@ use Rattle.nova_pig_expr.specs.Reading.{and_then, read, At}
 use Rattle.nova_pig_expr.proofs.Steps.{bound, same_rest, same_value}
 use Rattle.nova_pig_expr.proofs.Sound.{read-sound}
 use Rattle.nova_pig_expr.proofs.Complete.{read-complete, Stops}
-use Rattle.nova_pig_statement.specs.Reads.{listed, kind_of, some_kind, kind_at, label_at, flatten_at, value_at, item_at, op_at}
+use Rattle.nova_pig_statement.specs.Statement.{kind_of}
+use Rattle.nova_pig_statement.specs.Reads.{listed, some_kind, kind_at, label_at, flatten_at, value_at, item_at, op_at}
 use Rattle.nova_pig_statement.specs.Statement as st
 use Rattle.nova_pig_statement.specs.Statement.{Listed, IsLabel, IsItem, IsColumns, IsName, IsOp, Ended}
 use Rattle.nova_pig_statement.proofs.Shrink.{item-no_longer}

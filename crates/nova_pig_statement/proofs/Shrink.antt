@@ -8,7 +8,8 @@ use Rattle.nova_pig_tree.specs.declared.token.Symbol.TheVariants as s
 use Rattle.nova_pig_expr.specs.Grammar.{whole}
 use Rattle.nova_pig_expr.specs.Reading.{and_then, read, At, field_at}
 use Rattle.nova_pig_expr.proofs.Steps.{bound, same_rest, read-shrinks, field_at-shrinks}
-use Rattle.nova_pig_statement.specs.Reads.{kind_of, some_kind, kind_at, label_at, flatten_at, value_at, item_at, name_at}
+use Rattle.nova_pig_statement.specs.Statement.{kind_of}
+use Rattle.nova_pig_statement.specs.Reads.{some_kind, kind_at, label_at, flatten_at, value_at, item_at, name_at}
 use Rattle.nova_pig_statement.proofs.Lists.{NoLonger}
 
 pub field-no_longer : NoLonger field_at

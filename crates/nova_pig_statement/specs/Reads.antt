@@ -1,8 +1,6 @@
 -- The reading of statements from the left.
-use Rattle.std.specs.Prelude.{◌≡◌, ℕ, zero, suc, Bool, true, false, if◌then◌else◌, List, [], ◌∷◌, ◌++◌, length, Option, Some, None, Result, Ok, Err}
-use Rattle.std.specs.Str.{bytes_eq}
+use Rattle.std.specs.Prelude.{◌≡◌, ℕ, zero, suc, Bool, true, false, List, [], ◌∷◌, ◌++◌, length, Option, Some, None, Result, Ok, Err}
 use Rattle.nova_value.specs.declared.value.Kind.{Kind}
-use Rattle.nova_value.specs.declared.value.Kind.TheVariants as kind
 use Rattle.nova_pig_tree.specs.declared.expression.Field.{Field}
 use Rattle.nova_pig_tree.specs.declared.statement.Item.{Item}
 use Rattle.nova_pig_tree.specs.declared.statement.Item.TheVariants as item
@@ -17,6 +15,7 @@ use Rattle.nova_pig_tree.specs.declared.token.Symbol.TheVariants as s
 use Rattle.nova_pig_expr.specs.declared.fault.Fault.{Fault}
 use Rattle.nova_pig_expr.specs.declared.fault.Fault.TheVariants.{Syntax, Memory}
 use Rattle.nova_pig_expr.specs.Grammar.{whole}
+use Rattle.nova_pig_statement.specs.Statement.{kind_of}
 use Rattle.nova_pig_expr.specs.Reading.{Reading, Reader, and_then, ◌>>=◌, pure, read, At, field_at}
 
 -- one or more, with commas between; no more than so many after the first
@@ -48,12 +47,6 @@ shut a _ = None
 abbrev pub columns_at : Reader (List Field)
 columns_at (Symbol s.Open ∷ ts) = (listed field_at >>= shut) ts
 columns_at ts = (field_at >>= (λ a. pure (a ∷ []))) ts
-
-unfoldable pub kind_of : List ℕ → Option Kind
-kind_of a =
-    if bytes_eq a (108 ∷ 111 ∷ 110 ∷ 103 ∷ []) then Some kind.Long else
-    (if bytes_eq a (105 ∷ 110 ∷ 116 ∷ []) then Some kind.Long else
-    (if bytes_eq a (99 ∷ 104 ∷ 97 ∷ 114 ∷ 97 ∷ 114 ∷ 114 ∷ 97 ∷ 121 ∷ []) then Some kind.Text else None))
 
 abbrev pub some_kind : Option Kind → Reader (Option Kind)
 some_kind (Some k) ts = Some (Some k, ts)

@@ -1,5 +1,5 @@
 -- The grammar of statements, one case per production.
-use Rattle.std.specs.Prelude.{◌≡◌, ℕ, Bool, true, false, List, [], ◌∷◌, ◌++◌, Option, Some, None}
+use Rattle.std.specs.Prelude.{◌≡◌, ℕ, Bool, true, false, List, [], ◌∷◌, ◌++◌, Option, Some, None, if◌then◌else◌, codes}
 use Rattle.nova_value.specs.declared.value.Kind.{Kind}
 use Rattle.nova_pig_tree.specs.declared.expression.Field.{Field}
 use Rattle.nova_pig_tree.specs.declared.statement.Item.{Item}
@@ -14,7 +14,8 @@ use Rattle.nova_pig_tree.specs.declared.token.Token.TheVariants.{Ident, Word, Gr
 use Rattle.nova_pig_tree.specs.declared.token.Word.TheVariants as w
 use Rattle.nova_pig_tree.specs.declared.token.Symbol.TheVariants as s
 use Rattle.nova_pig_expr.specs.Grammar.{Derives, IsField, whole}
-use Rattle.nova_pig_statement.specs.Reads.{kind_of}
+use Rattle.nova_value.specs.declared.value.Kind.TheVariants as kind
+use Rattle.std.specs.Str.{bytes_eq}
 
 -- { "," one }, for each sort of parts
 pub data Tail {A : Type 0} (One : List Token → A → Type 0) : List Token → List A → Type 0 where
@@ -25,11 +26,18 @@ pub data Tail {A : Type 0} (One : List Token → A → Type 0) : List Token → 
 pub data Listed {A : Type 0} (One : List Token → A → Type 0) : List Token → List A → Type 0 where
   begin : {ts us : List Token} {a : A} {as' : List A} → One ts a → Tail One us as' → Listed One (ts ++ us) (a ∷ as')
 
+-- kind = the identifier long, int or chararray
+unfoldable pub kind_of : List ℕ → Option Kind
+kind_of a =
+    if bytes_eq a (codes "long") then Some kind.Long else
+    (if bytes_eq a (codes "int") then Some kind.Long else
+    (if bytes_eq a (codes "chararray") then Some kind.Text else None))
+
 -- [ AS ident [ ":" kind ] ]
 pub data IsLabel : List Token → Option (List ℕ) × Option Kind → Type 0 where
   bare : IsLabel [] (None, None)
   called : {a : List ℕ} → IsLabel (Word w.As ∷ Ident a ∷ []) (Some a, None)
-  typed : {a k : List ℕ} (kind : Kind) → kind_of k ≡ Some kind → IsLabel (Word w.As ∷ Ident a ∷ Symbol s.Colon ∷ Ident k ∷ []) (Some a, Some kind)
+  typed : {a k : List ℕ} (found : Kind) → kind_of k ≡ Some found → IsLabel (Word w.As ∷ Ident a ∷ Symbol s.Colon ∷ Ident k ∷ []) (Some a, Some found)
 
 -- item = "*" | FLATTEN "(" group ")" | expr [ AS ident [ ":" kind ] ]
 pub data IsItem : List Token → Item → Type 0 where

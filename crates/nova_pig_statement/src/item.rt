@@ -3,6 +3,7 @@
 ghost use Rattle.std.specs.Prelude.{◌≡◌, ◌<◌, length, OnOk};
 ghost use Rattle.nova_pig_expr.specs.Reading.{Answers, field_at};
 ghost use Rattle.nova_pig_statement.specs.Reads as spec;
+ghost use Rattle.nova_pig_statement.specs.Statement as grammar;
 
 use nova_pig_expr::{Fault, Parser};
 use nova_pig_tree::{Field, Item, Kind, Str, Symbol, Token, Word};
@@ -10,9 +11,9 @@ use sqlite_items::Items;
 use std::alloc::Global;
 
 /// The kind that an identifier names: `long` and `int` are the same.
-#[tactic(auto, unfolding(crate::specs::Reads::kind_of))]
+#[tactic(auto, unfolding(crate::specs::Statement::kind_of))]
 fn kind_of(name: &[u8]) -> Option<Kind>
-    ensures { result ≡ spec.kind_of name.now }
+    ensures { result ≡ grammar.kind_of name.now }
 {
     if name == b"long".as_slice() {
         Some(Kind::Long)

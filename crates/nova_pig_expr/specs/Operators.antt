@@ -1,5 +1,5 @@
 -- What single tokens are to the grammar.
-use Rattle.std.specs.Prelude.{ℕ, Bool, true, false, if◌then◌else◌, List, [], ◌∷◌, Option, Some, None}
+use Rattle.std.specs.Prelude.{ℕ, Bool, true, false, if◌then◌else◌, List, Option, Some, None, codes}
 use Rattle.std.specs.Str.{bytes_eq}
 use Rattle.nova_pig_tree.specs.declared.expression.CallKind.{CallKind}
 use Rattle.nova_pig_tree.specs.declared.expression.CallKind.TheVariants as k
@@ -28,6 +28,7 @@ abbrev pub comparison : Token → Option CompareOp
 comparison (Symbol (s.Compare op)) = Some op
 comparison _ = None
 
+-- the tree of an operator
 abbrev pub combine : BinaryOp → Expr → Expr → Expr
 combine b.Or = e.Or
 combine b.And = e.And
@@ -47,13 +48,14 @@ abbrev pub is_open : Token → Bool
 is_open (Symbol s.Open) = true
 is_open _ = false
 
+-- the name of the field that a grouped alias has
 abbrev pub group_word : List ℕ
-group_word = 103 ∷ 114 ∷ 111 ∷ 117 ∷ 112 ∷ []
+group_word = codes "group"
 
--- COUNT, SUM, MIN and MAX
+-- a call begins with one of four names, as they stand
 unfoldable pub call_kind : List ℕ → Option CallKind
 call_kind a =
-    if bytes_eq a (67 ∷ 79 ∷ 85 ∷ 78 ∷ 84 ∷ []) then Some k.Count else
-    (if bytes_eq a (83 ∷ 85 ∷ 77 ∷ []) then Some k.Sum else
-    (if bytes_eq a (77 ∷ 73 ∷ 78 ∷ []) then Some k.Min else
-    (if bytes_eq a (77 ∷ 65 ∷ 88 ∷ []) then Some k.Max else None)))
+    if bytes_eq a (codes "COUNT") then Some k.Count else
+    (if bytes_eq a (codes "SUM") then Some k.Sum else
+    (if bytes_eq a (codes "MIN") then Some k.Min else
+    (if bytes_eq a (codes "MAX") then Some k.Max else None)))

@@ -156,7 +156,7 @@ minus_read ds digits small =
     ap (λ (b : Bool). cond b (Some (neg_ℤ (pos m))) None) (and_true (is_numeral ds) (nat_lt m (2 ^ 63 + 1)) digits fits)
 
 -- a number that is spelled is read
-long_read : (f : List ℕ) (n : ℤ) → SpellsLong f n → long_at f ≡ Some n
+pub long_read : (f : List ℕ) (n : ℤ) → SpellsLong f n → long_at f ≡ Some n
 long_read f n h = elim h as (λ f n _. long_at f ≡ Some n) [
   | form.plain {ds = ds} digits small ↦ plain_read ds digits small
   | form.minus {ds = ds} digits small ↦ minus_read ds digits small
@@ -181,7 +181,7 @@ no_tab-value k f v h = elim h as (λ k f v _. no_tab f ≡ true) [
 text_read : (i : ℕ) (f : List ℕ) → IsText f → value_of kind.Text i f ≡ Ok (Text f)
 text_read i f is = let utf8 = is.utf8 in let short = is.short in grind (arith, nat_tests, utf8, short)
 
-value_read : (i : ℕ) (k : Kind) (f : List ℕ) (v : Value) → SpellsValue k f v → value_of k i f ≡ Ok v
+pub value_read : (i : ℕ) (k : Kind) (f : List ℕ) (v : Value) → SpellsValue k f v → value_of k i f ≡ Ok v
 value_read i k f v h = elim h as (λ k f v _. value_of k i f ≡ Ok v) [
   | form.long {f = f} {n = n} is ↦ ap (long_or (BadNumber i)) (long_read f n is)
   | form.text {f = f} is ↦ text_read i f is

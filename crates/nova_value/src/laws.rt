@@ -7,9 +7,11 @@ pub fn lines_are_read_back()
     ensures removals { law.RemovalsReadBack }
 {}
 
-/// `row_from_text` reads exactly the lines of the forms, each as what it spells.
+/// `row_from_text` reads exactly the lines of the forms, each as what it spells, and refuses each
+/// other line for the cause that the forms give.
 pub fn lines_are_forms()
-    ensures { law.LinesAreForms }
+    ensures spelled { law.LinesAreForms }
+    ensures refused { law.FaultsAreForms }
 {}
 
 /// Values and keys are in total order, and only equal ones tie.

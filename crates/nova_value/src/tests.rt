@@ -5,7 +5,7 @@ ghost use Rattle.nova_value.specs.Text.{has_newline};
 
 use crate::{
     Column, Entry, Key, Kind, Name, RowFault, Schema, Str, Value, compare_keys, copy_entry,
-    copy_key, copy_row, copy_value, key_of, row_from_text,
+    copy_key, copy_row, copy_value, key_of, key_of_entry, row_from_text,
 };
 use std::alloc::{AllocError, Global};
 use std::cmp::Ordering;
@@ -188,6 +188,10 @@ fn copies_and_keys(rt: HostRuntime) -> Result<(), Fail> {
         return Ok(());
     };
     let key = key_of(alloc, &row, &schema)?;
+    assert_eq!(rt;
+        compare_keys(&key, &key_of_entry(alloc, &entry, &schema)?),
+        Ordering::Equal
+    );
     let wanted = Key::new(vec![in alloc; text(alloc)?, Value::Long(7)]?);
     assert_eq!(rt; compare_keys(&key, &wanted), Ordering::Equal);
     assert_eq!(rt; copy_key(alloc, &key)?.into_values(), wanted.into_values());

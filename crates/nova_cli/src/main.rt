@@ -3,10 +3,9 @@
 
 use nova_dir::{DirHost, StdSource};
 use nova_engine::{Status, nova};
-use std::env;
-use std::io;
 use std::io::ErrorKind;
 use std::process::ExitCode;
+use std::{env, io};
 
 /// The folder of the store, in the folder that the program is called in.
 const FOLDER: &str = "nova.d";
@@ -22,7 +21,11 @@ fn words(rt: &HostRuntime) -> io::Result<Vec<String>> {
 
 /// The status where there are no words to read: one that isn't UTF-8 makes a faulty command line.
 fn status_without_words(error: io::Error) -> Status {
-    if error.kind() == ErrorKind::InvalidData { Status::Usage } else { Status::NoMemory }
+    if error.kind() == ErrorKind::InvalidData {
+        Status::Usage
+    } else {
+        Status::NoMemory
+    }
 }
 
 fn main(rt: HostRuntime) -> ExitCode {

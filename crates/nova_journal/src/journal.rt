@@ -1,5 +1,5 @@
 //! A journal, its making and opening, and records that are added.
-ghost use Rattle.std.specs.Prelude.{◌≡◌, ◌+◌, ◌*◌, ◌^◌, ◌<◌, ◌≤◌, ℕ, List, [], ◌∷◌, ◌++◌, Option, Some, None, length, IfOk, IfErr, IsSome, OnOk, IsTrue};
+ghost use Rattle.std.specs.Prelude.{◌≡◌, ◌+◌, ◌*◌, ◌^◌, ◌<◌, ◌≤◌, ℕ, List, [], ◌∷◌, ◌++◌, Option, Some, None, length, IfOk, IfErr, IsErr, OnOk, IsTrue};
 ghost use Rattle.nova_outside.specs.Disk.{Only, SameBut, LeavesSameBut, OneChanges};
 ghost use Rattle.nova_outside.specs.History.{LeftNow, Meanwhile, Outcome, current, replies};
 ghost use Rattle.nova_journal.specs.Fault.{AppendCause, MarkCause, ReopenCause, ReopenTold};
@@ -60,7 +60,7 @@ impl Journal {
         ensures replies { IsTrue H.is_honest → replies (H.history host.new) ≡ replies (H.history host.old) }
         ensures crash_others { IsTrue H.is_honest → LeavesSameBut (4 * generation) (Outcome (H.history host.old)) (Outcome (H.history host.new)) }
         ensures any_moment { IsTrue H.is_honest → Meanwhile (OneChanges (4 * generation) (λ _. Unit {0}) (Outcome (H.history host.old)) (replies (H.history host.old))) (H.history host.old) (H.history host.new) }
-        ensures full { (2 ^ 62 < 1 + length framed.now) → host.new ≡ host.old }
+        ensures full { (2 ^ 62 < 1 + length framed.now) → IsErr result × (host.new ≡ host.old) }
         ensures cause { IfErr result (AppendCause (H.disk_faults host.old) (H.disk_faults host.new) 1 (1 + length framed.now)) }
         ensures later { H.disk_faults host.old ≤ H.disk_faults host.new }
         ensures reply_faults { H.reply_faults host.new ≡ H.reply_faults host.old }
@@ -157,7 +157,7 @@ impl Journal {
         ensures others { IsTrue H.is_honest → SameBut (4 * self.generation) (current (H.history host.old)) (current (H.history host.new)) }
         ensures crash_others { IsTrue H.is_honest → LeavesSameBut (4 * self.generation) (Outcome (H.history host.old)) (Outcome (H.history host.new)) }
         ensures replies { IsTrue H.is_honest → replies (H.history host.new) ≡ replies (H.history host.old) }
-        ensures full { (2 ^ 62 < self.length + length framed.now) → host.new ≡ host.old }
+        ensures full { (2 ^ 62 < self.length + length framed.now) → IsErr result × (host.new ≡ host.old) }
         ensures cause { IfErr result (AppendCause (H.disk_faults host.old) (H.disk_faults host.new) self.length (self.length + length framed.now)) }
         ensures later { H.disk_faults host.old ≤ H.disk_faults host.new }
         ensures reply_faults { H.reply_faults host.new ≡ H.reply_faults host.old }

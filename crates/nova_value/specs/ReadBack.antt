@@ -22,23 +22,23 @@ use Rattle.nova_value.specs.Statements.{RowsReadBack, RemovalsReadBack}
 use Rattle.nova_value.specs.Entries.{length_kinds}
 
 -- no tab stands in the bytes
-abbrev no_tab : List ℕ → Bool
+abbrev pub no_tab : List ℕ → Bool
 no_tab [] = true
 no_tab (b ∷ bs) = not (b == 9) && no_tab bs
 
-fields-join : (a bs : List ℕ) → no_tab a ≡ true → fields (a ++ (9 ∷ bs)) ≡ a ∷ fields bs
+pub fields-join : (a bs : List ℕ) → no_tab a ≡ true → fields (a ++ (9 ∷ bs)) ≡ a ∷ fields bs
 fields-join [] bs h = refl
 fields-join (b ∷ a) bs h = grind (arith, nat_tests, fields-join a bs)
 
-fields-only : (a : List ℕ) → no_tab a ≡ true → fields a ≡ a ∷ []
+pub fields-only : (a : List ℕ) → no_tab a ≡ true → fields a ≡ a ∷ []
 fields-only [] h = refl
 fields-only (b ∷ a) h = grind (arith, nat_tests, fields-only a)
 
-no_tab-digits : (ds : List ℕ) → all_ascii_digits ds ≡ true → no_tab ds ≡ true
+pub no_tab-digits : (ds : List ℕ) → all_ascii_digits ds ≡ true → no_tab ds ≡ true
 no_tab-digits [] h = refl
 no_tab-digits (d ∷ ds) h = grind (arith, nat_tests, no_tab-digits ds)
 
-no_tab-clean : (bs : List ℕ) → is_clean bs ≡ true → no_tab bs ≡ true
+pub no_tab-clean : (bs : List ℕ) → is_clean bs ≡ true → no_tab bs ≡ true
 no_tab-clean [] h = refl
 no_tab-clean (b ∷ bs) h = grind (arith, nat_tests, no_tab-clean bs)
 
@@ -61,11 +61,11 @@ fields-joined k v (l ∷ ls) (w ∷ ws) one rest =
     ∙ ap (λ (fs : List (List ℕ)). value_text v ∷ fs) (fields-joined l w ls ws rest.0 rest.1)
 
 -- what `long_at` answers for a numeral
-plain_at : (ds : List ℕ) (n : ℕ) → all_ascii_digits ds ≡ true → 0 < length ds → number_after 0 ds ≡ n → n < 2 ^ 63 → long_at ds ≡ Some (pos n)
+pub plain_at : (ds : List ℕ) (n : ℕ) → all_ascii_digits ds ≡ true → 0 < length ds → number_after 0 ds ≡ n → n < 2 ^ 63 → long_at ds ≡ Some (pos n)
 plain_at [] n digits some is small = absurd (omega arith)
 plain_at (d ∷ ds) n digits some is small = grind (arith, nat_tests)
 
-and_true : (a b : Bool) → a ≡ true → b ≡ true → (a && b) ≡ true
+pub and_true : (a b : Bool) → a ≡ true → b ≡ true → (a && b) ≡ true
 and_true true b e f = f
 and_true false b e f = e
 
@@ -152,7 +152,7 @@ newline-joined [] (v ∷ vs) h = absurd h
 newline-joined (k ∷ ks) [] h = absurd h
 newline-joined (k ∷ ks) (v ∷ vs) h = newline-append (value_text v) (tail_text vs) ∙ neither _ _ (newline-value k v h.0) (newline-tail ks vs h.1)
 
-length-key_kinds : (s : Shape) → length (key_kinds s) ≡ length s.key
+pub length-key_kinds : (s : Shape) → length (key_kinds s) ≡ length s.key
 length-key_kinds s = simp length-map
 
 pub rows_read_back : RowsReadBack

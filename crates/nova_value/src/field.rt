@@ -1,7 +1,8 @@
 //! The fields of a line of text.
 ghost use Rattle.std.specs.Prelude.{◌≡◌, ◌<◌, false, true, ℕ, ◌∷◌, length, option_copied, IfSome, IfNone, slice_index, ◌≢◌};
 ghost use Rattle.nova_value.specs.Text.{has_newline, is_clean};
-ghost use Rattle.nova_value.specs.Line.{Gives, long_at, value_of, fields, rest_fields, IsFirstTab};
+ghost use Rattle.nova_value.specs.Line.{long_at, value_of, fields};
+ghost use Rattle.nova_value.specs.Reading.{Gives, rest_fields, IsFirstTab};
 
 use crate::fault::RowFault;
 use crate::value::{Kind, Str, Value};

@@ -7,6 +7,13 @@ pub fn lines_are_read_back()
     ensures removals { law.RemovalsReadBack }
 {}
 
+/// `row_from_text` reads exactly the lines of the forms, each as what it spells, and refuses each
+/// other line for the cause that the forms give.
+pub fn lines_are_forms()
+    ensures spelled { law.LinesAreForms }
+    ensures refused { law.FaultsAreForms }
+{}
+
 /// Values and keys are in total order, and only equal ones tie.
 pub fn order_is_exact()
     ensures { law.IsExactOrder }
@@ -15,4 +22,14 @@ pub fn order_is_exact()
 /// A row that fits has a key that fits.
 pub fn keys_fit()
     ensures { law.KeysFit }
+{}
+
+/// Numbers wrap in two's complement.
+pub fn wraps_to_one()
+    ensures { law.WrapsToOne }
+{}
+
+/// What `Schema::new` asks is what each schema keeps.
+pub fn schemas_are_tested()
+    ensures { law.SchemasAreTested }
 {}

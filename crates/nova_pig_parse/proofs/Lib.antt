@@ -1,0 +1,4 @@
+pub mod Cuts
+pub mod Deep
+pub mod Scripts
+pub mod Faults

@@ -4,8 +4,14 @@ mod Parts
 mod Empty
 mod Storing
 mod LoadLines
+mod Payloads
+mod Folding
 mod Taking
 mod CommandWords
 mod SessionLines
 mod CommandLines
 mod Moving
+mod OneStore
+mod Reached
+mod Ending
+mod Calling

@@ -20,16 +20,16 @@ use Rattle.nova_engine.specs.Standing.{AreLines, HasRows, TakesLine, raw_delta}
 pub takes_line-bad : (k : ℕ) (line : List ℕ) → TakesLine (pending.BadRow k) (pending.BadRow k) line
 takes_line-bad k line load is = (is.0, read_rows-bad raw_schema 1 k load.rows line is.1)
 
-delta_more : (d : DeltaValue) (es : List Entry) (e : Entry) → d ≡ raw_delta es → with_entry d e ≡ raw_delta (es ++ e ∷ [])
+pub delta_more : (d : DeltaValue) (es : List Entry) (e : Entry) → d ≡ raw_delta es → with_entry d e ≡ raw_delta (es ++ e ∷ [])
 delta_more d es e is =
     ap (λ (x : DeltaValue). with_entry x e) is
     ∙ ap (λ m. let made : DeltaValue = record { schema = raw_schema; entries = m } in made) (sym (set_entries-more raw_schema fin.empty es e))
 
-lines-append : (rows : List (List ℕ)) (line : List ℕ) → AreLines rows → has_newline line ≡ false → AreLines (rows ++ line ∷ [])
+pub lines-append : (rows : List (List ℕ)) (line : List ℕ) → AreLines rows → has_newline line ≡ false → AreLines (rows ++ line ∷ [])
 lines-append [] line are clean = (clean, tt)
 lines-append (r ∷ rs) line are clean = (are.0, lines-append rs line are.1 clean)
 
-with_newlines-append : (rows : List (List ℕ)) (line : List ℕ) → with_newlines (rows ++ line ∷ []) ≡ with_newlines rows ++ (line ++ 10 ∷ [])
+pub with_newlines-append : (rows : List (List ℕ)) (line : List ℕ) → with_newlines (rows ++ line ∷ []) ≡ with_newlines rows ++ (line ++ 10 ∷ [])
 with_newlines-append [] line = refl
 with_newlines-append (r ∷ rs) line = ap (λ t. r ++ 10 ∷ t) (with_newlines-append rs line) ∙ sym (append_assoc r (10 ∷ with_newlines rs) (line ++ 10 ∷ []))
 

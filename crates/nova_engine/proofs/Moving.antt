@@ -65,8 +65,8 @@ within_behind s xs ys k given is = record {
 pub adds_both : (a b c : List Event) (xs ys : List ℕ) → Adds a b xs → Adds b c ys → Adds a c (xs ++ ys)
 adds_both a b c xs ys one two = two ∙ ap (λ t. t ++ ys) one ∙ append_assoc (replies a) xs ys
 
-pub adds_nothing : (h : Bool) (a : List Event) → Adding h a a []
-adds_nothing h a honest = sym (append-nil (replies a))
+pub nothing_added : (h : Bool) (a : List Event) → Adding h a a []
+nothing_added h a honest = sym (append-nil (replies a))
 
 after_past : (s : State) (xs ys : List Step) (k : ℕ) → after_all s (take (length xs + k) (xs ++ ys)) ≡ after_all (after_all s xs) (take k ys)
 after_past s xs ys k = ap (after_all s) (take-append-add xs ys k) ∙ after_all-append s xs (take k ys)
@@ -149,13 +149,13 @@ adds_commands h s cs ds a b c one two honest =
     let rest = steps (after_all s (steps s cs)) ds in
     rw (steps-append s cs ds, text-append s (steps s cs) rest) (adds_both a b c (text s (steps s cs)) (text (after_all s (steps s cs)) rest) (one honest) (two honest))
 
-after_commands : (s : State) (cs ds : List Command) → after_all s (steps s (cs ++ ds)) ≡ after_all (after_all s (steps s cs)) (steps (after_all s (steps s cs)) ds)
+pub after_commands : (s : State) (cs ds : List Command) → after_all s (steps s (cs ++ ds)) ≡ after_all (after_all s (steps s cs)) (steps (after_all s (steps s cs)) ds)
 after_commands s cs ds = ap (after_all s) (steps-append s cs ds) ∙ after_all-append s (steps s cs) (steps (after_all s (steps s cs)) ds)
 
 -- ---- bytes behind bytes
 
 pub advances_nothing : (h : Bool) (p : Position) (a : List Event) → Advances h p p a a []
-advances_nothing h p a = record { commands = []; state = refl; adds = adds_nothing h a; cut = λ more. refl; whole = λ more. refl }
+advances_nothing h p a = record { commands = []; state = refl; adds = nothing_added h a; cut = λ more. refl; whole = λ more. refl }
 
 pub advances_both : (h : Bool) (p q r : Position) (a b c : List Event) (xs ys : List ℕ) → Advances h p q a b xs → Advances h q r b c ys → Advances h p r a c (xs ++ ys)
 advances_both h p q r a b c xs ys one two =
@@ -225,7 +225,7 @@ moves_carry h old new a bytes same carry p at =
       record {
         commands = [];
         state = refl;
-        adds = adds_nothing h a;
+        adds = nothing_added h a;
         cut = λ more. ap (λ t. commands_in p.load (lines_of t)) (sym (append_assoc p.carry bytes more));
         whole = λ more. ap (λ t. ended_commands (commands_in p.load (whole_lines_of t))) (sym (append_assoc p.carry bytes more));
       },
@@ -268,7 +268,7 @@ takes_no_last h old a none p at = record {
   load = p.load;
   stands = at.stands;
   pending = at.pending;
-  adds = adds_nothing h a;
+  adds = nothing_added h a;
   cut = ap (λ t. commands_in p.load (lines_of (t ++ []))) (at.carried ∙ none);
 }
 

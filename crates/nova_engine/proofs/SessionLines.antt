@@ -21,10 +21,9 @@ use Rattle.nova_engine.specs.Flow.{raw_flow, raw_schema}
 use Rattle.nova_engine.specs.declared.stop.Stop.TheVariants.{Reply}
 use Rattle.nova_engine.specs.Positions.{Loading, load_after, ended_by}
 use Rattle.nova_engine.specs.Steps.{StopsIn}
-use Rattle.nova_engine.specs.Stored.{load_of, entries_read, ends_whole, with_newlines}
-use Rattle.nova_machine.proofs.Cuts.{whole_lines_at}
+use Rattle.nova_engine.proofs.Payloads.{payload_reads}
 use Rattle.nova_value.specs.declared.schema.Entry.{Entry}
-use Rattle.nova_engine.specs.Standing.{AreLines, StandsFor, StandsForLoad, StandsForPending, BeginsLoad, TakesLine, Takes, LoadsFrom, LoadBreaks, ClosesLoad, BreaksLoad, MovesLine, BreaksLine, TakesSessionLine}
+use Rattle.nova_engine.specs.Standing.{StandsFor, StandsForLoad, StandsForPending, BeginsLoad, TakesLine, Takes, LoadsFrom, LoadBreaks, ClosesLoad, BreaksLoad, MovesLine, BreaksLine, TakesSessionLine}
 use Rattle.nova_engine.specs.Words.{line_of}
 use Rattle.nova_engine.proofs.CommandWords.{IsLineOf, line_is}
 use Rattle.nova_engine.proofs.Taking.{steps-load, steps-other_load, takes_reply, takes_nothing, stops_reply, stops_at_once, takes_load, stops_load}
@@ -75,28 +74,6 @@ reply_loaded : (h : Bool) (store : Store) (a : List Event) (s : State) → Stand
 reply_loaded h store a s stands =
     ap (λ (f : Flow). loaded_line (channel_in f 0).name (store.version + 1)) (sym stands.flow)
     ∙ ap (λ n. loaded_line (channel_in s.flow 0).name (n + 1)) (sym stands.version)
-
--- the payload of a load that was read
-ends_whole-line : (l rest : List ℕ) → ends_whole rest ≡ true → ends_whole (l ++ 10 ∷ rest) ≡ true
-ends_whole-line [] [] whole = refl
-ends_whole-line [] (b ∷ bs) whole = whole
-ends_whole-line (c ∷ []) rest whole = ends_whole-line [] rest whole
-ends_whole-line (c ∷ (d ∷ ds)) rest whole = ends_whole-line (d ∷ ds) rest whole
-
-ends_whole-lines : (rows : List (List ℕ)) → ends_whole (with_newlines rows) ≡ true
-ends_whole-lines [] = refl
-ends_whole-lines (r ∷ rs) = ends_whole-line r (with_newlines rs) (ends_whole-lines rs)
-
-whole_lines-again : (rows : List (List ℕ)) → AreLines rows → whole_lines_of (with_newlines rows) ≡ rows
-whole_lines-again [] are = refl
-whole_lines-again (r ∷ rs) are = whole_lines_at r (with_newlines rs) are.0 ∙ ap (λ (ls : List (List ℕ)). r ∷ ls) (whole_lines-again rs are.1)
-
-payload_reads : (rows : List (List ℕ)) (payload : List ℕ) (es : List Entry) → AreLines rows → read_rows raw_schema 1 rows ≡ Ok es → payload ≡ with_newlines rows → load_of payload ≡ Some es
-payload_reads rows payload es are read is =
-    ap load_of is
-    ∙ ap (λ (b : Bool). if b then entries_read (read_rows raw_schema 1 (whole_lines_of (with_newlines rows))) else None) (ends_whole-lines rows)
-    ∙ ap (λ (ls : List (List ℕ)). entries_read (read_rows raw_schema 1 ls)) (whole_lines-again rows are)
-    ∙ ap entries_read read
 
 -- a load that was merged and kept, or stopped
 pub closes_loaded : (h : Bool) (r : Result Store Stop) (old : Store) (rows : Rows) (a b : List Event)

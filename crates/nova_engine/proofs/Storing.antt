@@ -34,7 +34,7 @@ more_before (Some es) (Some ys) t xs x rest is =
     let same : Load 0 es ∷ ys ≡ xs = cc in
     ap (step_before (Some es)) (rest ys refl) ∙ ap (λ (zs : List Step). let all : Option (List Step) = Some (zs ++ x ∷ []) in all) same
 
-steps_stored-more : (loads : List (List ℕ)) (payload : List ℕ) (xs : List Step) (es : List Entry) → steps_stored loads ≡ Some xs → load_of payload ≡ Some es → steps_stored (loads ++ payload ∷ []) ≡ Some (xs ++ Load 0 es ∷ [])
+pub steps_stored-more : (loads : List (List ℕ)) (payload : List ℕ) (xs : List Step) (es : List Entry) → steps_stored loads ≡ Some xs → load_of payload ≡ Some es → steps_stored (loads ++ payload ∷ []) ≡ Some (xs ++ Load 0 es ∷ [])
 steps_stored-more [] payload xs es read is =
     let none : [] ≡ xs = cc in
     ap (λ o. step_before o (Some [])) is ∙ ap (λ (zs : List Step). let all : Option (List Step) = Some (zs ++ Load 0 es ∷ []) in all) none

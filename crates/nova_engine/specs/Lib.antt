@@ -6,4 +6,8 @@ pub mod Stored
 pub mod Steps
 pub mod Standing
 pub mod Moves
+pub mod Folding
 pub mod Status
+pub mod Opening
+pub mod Ends
+pub mod Calls

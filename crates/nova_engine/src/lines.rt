@@ -1,38 +1,16 @@
 //! A session's bytes, cut into lines as they come.
-ghost use Rattle.std.specs.Prelude.{◌≡◌, ◌≢◌, ◌+◌, ◌<◌, ◌≤◌, ◌^◌, ◌++◌, [], ℕ, length, slice_index, IfOk, IfErr, MatchOption, MatchResult, true, false};
+ghost use Rattle.std.specs.Prelude.{◌≡◌, ◌≢◌, ◌+◌, ◌<◌, ◌≤◌, ◌^◌, ◌++◌, [], length, IfOk, IfErr, MatchResult, true, false};
 ghost use Rattle.nova_value.specs.Text.{has_newline};
 ghost use Rattle.nova_engine.specs.Standing.{InHost, line_count};
-ghost use Rattle.nova_engine.specs.Moves.{IsNextLine, MovesOn, BreaksOn, MovesBehind, BreaksBehind, Finishes, StopsFinish, Ends, StopsEnd, TakesLast};
+ghost use Rattle.nova_engine.specs.Moves.{MovesOn, BreaksOn, MovesBehind, BreaksBehind, Finishes, StopsFinish, Ends, StopsEnd, TakesLast};
 ghost use Rattle.nova_engine.specs.Steps.{HasStopCause};
 
+use crate::cut::next_line;
 use crate::reader::LineReader;
 use crate::session::{Session, close, take_line};
 use crate::stop::Stop;
 use nova_outside::Host;
 use std::alloc::Global;
-
-/// How many bytes stand before the first newline.
-fn line_length(bytes: &[u8]) -> usize
-    ensures within { result ≤ length bytes.now }
-    ensures before { (k : ℕ) → k < result → slice_index bytes.now k ≢ 10 }
-    ensures end { result < length bytes.now → slice_index bytes.now result ≡ 10 }
-{
-    bytes
-        .iter()
-        .position(|b| *b == b'\n')
-        .unwrap_or(bytes.len())
-}
-
-/// The first line that a newline ends, and what follows it.
-fn next_line(bytes: &[u8]) -> Option<(&[u8], &[u8])>
-    ensures { MatchOption result (has_newline bytes.now ≡ false) (λ p. IsNextLine bytes.now p.0.now p.1.now) }
-{
-    let length = line_length(bytes);
-    if length == bytes.len() {
-        return None;
-    }
-    Some((&bytes[..length], &bytes[length + 1..]))
-}
 
 /// Whether no bytes of a line are held.
 fn holds_nothing(carry: &Vec<u8>) -> bool

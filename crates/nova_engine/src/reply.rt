@@ -5,6 +5,7 @@ ghost use Rattle.nova_outside.specs.Replies.{Gives, GivesInPart, in_one};
 ghost use Rattle.nova_machine.specs.Replies.{line_end, loaded_line, shown_line};
 ghost use Rattle.nova_value.specs.RowLine.{row_line, joined, tail_text, value_text};
 ghost use Rattle.nova_engine.specs.Buffered.{Holds};
+ghost use Rattle.nova_engine.specs.Opening.{damaged_line, ready_line};
 
 use arrayvec::ArrayVec;
 use itoa::Buffer;
@@ -238,4 +239,37 @@ pub fn unfinished_load<H: Host>(host: &mut H) -> Result<(), Failed>
     ensures disk_faults { H.disk_faults host.new ≡ H.disk_faults host.old }
 {
     reply_bytes(host, b"no 7 unfinished-load\n")
+}
+
+/// Replies that a store of one channel and no task was made.
+pub fn ready<H: Host>(host: &mut H) -> Result<(), Failed>
+    ensures gives { MatchResult result
+        (λ _. Gives H.is_honest (H.history host.old) (H.history host.new) ready_line)
+        (λ _. GivesInPart H.is_honest (H.history host.old) (H.history host.new) ready_line) }
+    ensures cause { HasCause (H.reply_faults host.old) (H.reply_faults host.new) result }
+    ensures disk_faults { H.disk_faults host.new ≡ H.disk_faults host.old }
+{
+    reply_bytes(host, b"ready 1 0\n")
+}
+
+/// Replies where a file of the store is damaged.
+pub fn damaged<H: Host>(host: &mut H, file: u64, at: u64) -> Result<(), Failed>
+    ensures gives { MatchResult result
+        (λ _. Gives H.is_honest (H.history host.old) (H.history host.new) (damaged_line file at))
+        (λ _. GivesInPart H.is_honest (H.history host.old) (H.history host.new) (damaged_line file at)) }
+    ensures cause { HasCause (H.reply_faults host.old) (H.reply_faults host.new) result }
+    ensures disk_faults { H.disk_faults host.new ≡ H.disk_faults host.old }
+{
+    let mut file_digits = Buffer::new();
+    let mut place_digits = Buffer::new();
+    reply_parts(
+        host,
+        &[
+            b"damaged ",
+            file_digits.format(file).as_bytes(),
+            b" ",
+            place_digits.format(at).as_bytes(),
+            b"\n",
+        ],
+    )
 }

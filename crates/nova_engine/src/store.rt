@@ -21,7 +21,7 @@ use nova_outside::{Failed, Host};
 use std::alloc::Global;
 
 /// Why a load's record wasn't written.
-fn stop_of(fault: LogFault) -> Stop
+pub fn stop_of(fault: LogFault) -> Stop
     ensures { result ≡ append_stop fault }
 {
     match fault {

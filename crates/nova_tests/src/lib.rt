@@ -7,3 +7,5 @@ mod faults;
 mod run;
 #[cfg(test)]
 mod sessions;
+#[cfg(test)]
+mod stores;

@@ -3,6 +3,9 @@ use nova_engine::nova;
 use nova_mem::{MemHost, MemSource};
 use std::alloc::{AllocError, Global};
 
+/// The reply to `init`, which the host of a test holds before others.
+pub const READY: &str = "ready 1 0\n";
+
 /// The words of a command line.
 pub fn words_of(alloc: Global, words: &[&str]) -> Result<Vec<String>, AllocError> {
     let mut all = Vec::new(alloc);
@@ -18,8 +21,41 @@ pub fn source_of(alloc: Global, bytes: &[u8], piece: usize) -> Result<MemSource,
     Ok(MemSource::new(alloc, bytes.to_vec(alloc)?, pieces))
 }
 
-/// `run` on a session, and its status.
-pub fn run(alloc: Global, host: &mut MemHost, source: &mut MemSource) -> Result<u8, AllocError> {
-    let words = words_of(alloc, &["run"])?;
+/// A call of the program with one word, and its status.
+pub fn call(
+    alloc: Global,
+    word: &str,
+    host: &mut MemHost,
+    source: &mut MemSource,
+) -> Result<u8, AllocError> {
+    let words = words_of(alloc, &[word])?;
     Ok(nova(alloc, &words, source, host))
+}
+
+/// `run` on a session, and its status.
+pub fn run(alloc: Global, host: &mut MemHost, session: &str) -> Result<u8, AllocError> {
+    let mut source = source_of(alloc, session.as_bytes(), 65536)?;
+    call(alloc, "run", host, &mut source)
+}
+
+/// `init`, over a source that fails at once, and its status.
+pub fn init(alloc: Global, host: &mut MemHost) -> Result<u8, AllocError> {
+    let mut source = source_of(alloc, b"show raw\n", 1)?;
+    source.fail_at(0)?;
+    call(alloc, "init", host, &mut source)
+}
+
+/// A host with a store without loads. Its replies are those to `init`.
+pub fn with_store(alloc: Global) -> Result<MemHost, AllocError> {
+    let mut host = MemHost::new(alloc);
+    init(alloc, &mut host)?;
+    Ok(host)
+}
+
+/// Whether a host's replies are those to `init` and then these.
+pub fn replied(host: &MemHost, lines: &str) -> bool {
+    match host.replies().strip_prefix(READY.as_bytes()) {
+        Some(rest) => rest == lines.as_bytes(),
+        None => false,
+    }
 }

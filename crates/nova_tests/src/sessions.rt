@@ -1,5 +1,5 @@
 //! Sessions and their replies.
-use crate::run::{run, source_of, words_of};
+use crate::run::{READY, call, replied, source_of, with_store, words_of};
 use nova_engine::nova;
 use nova_mem::{MemHost, MemSteady};
 use std::alloc::{AllocError, Global};
@@ -71,14 +71,10 @@ const SESSIONS: [(&str, &str, &str); 12] = [
 fn sessions_reply(rt: HostRuntime) -> Result<(), Fail> {
     for (name, session, replies) in SESSIONS {
         for piece in [1, 3, 65536] {
-            let mut host = MemHost::new(rt.alloc());
+            let mut host = with_store(rt.alloc())?;
             let mut source = source_of(rt.alloc(), session.as_bytes(), piece)?;
-            let status = run(rt.alloc(), &mut host, &mut source)?;
-            assert_eq!(rt;
-                host.replies(),
-                replies.as_bytes(),
-                "{name}, in pieces of {piece}"
-            );
+            let status = call(rt.alloc(), "run", &mut host, &mut source)?;
+            assert!(rt; replied(&host, replies), "{name}, in pieces of {piece}");
             assert_eq!(rt; status, 0, "{name}, in pieces of {piece}");
         }
     }
@@ -97,7 +93,7 @@ fn load_of_text(alloc: Global, length: usize) -> Result<Vec<u8>, AllocError> {
 
 #[test]
 fn longest_text_is_loaded(rt: HostRuntime) -> Result<(), Fail> {
-    let mut host = MemHost::new(rt.alloc());
+    let mut host = with_store(rt.alloc())?;
     let words = words_of(rt.alloc(), &["run"])?;
     let mut source = MemSteady::new(load_of_text(rt.alloc(), 65535)?);
     assert_eq!(rt;
@@ -106,25 +102,29 @@ fn longest_text_is_loaded(rt: HostRuntime) -> Result<(), Fail> {
         "status"
     );
     assert!(rt;
-        host.replies().starts_with(b"loaded raw 1\n+1\txxxx"),
+        host.replies()
+            .starts_with(b"ready 1 0\nloaded raw 1\n+1\txxxx"),
         "the row's front"
     );
     assert!(rt;
         host.replies().ends_with(b"xxxx\t1\nshown raw 1 1\n"),
         "the row's end"
     );
-    assert_eq!(rt; host.replies().len(), 13 + 6 + 65535 + 14, "all replies");
+    assert_eq!(rt;
+        host.replies().len(),
+        READY.len() + 13 + 6 + 65535 + 14,
+        "all replies"
+    );
 
-    let mut host = MemHost::new(rt.alloc());
+    let mut host = with_store(rt.alloc())?;
     let mut source = MemSteady::new(load_of_text(rt.alloc(), 65536)?);
     assert_eq!(rt;
         nova(rt.alloc(), &words, &mut source, &mut host),
         0,
         "status"
     );
-    assert_eq!(rt;
-        host.replies(),
-        b"no 6 bad-row 1\nshown raw 0 0\n".as_slice(),
+    assert!(rt;
+        replied(&host, "no 6 bad-row 1\nshown raw 0 0\n"),
         "one byte more"
     );
     Ok(())
@@ -132,7 +132,15 @@ fn longest_text_is_loaded(rt: HostRuntime) -> Result<(), Fail> {
 
 #[test]
 fn other_words_are_refused(rt: HostRuntime) -> Result<(), Fail> {
-    let lines: [&[&str]; 5] = [&[], &["frob"], &["run", "run"], &["Run"], &["run "]];
+    let lines: [&[&str]; 7] = [
+        &[],
+        &["frob"],
+        &["run", "run"],
+        &["Run"],
+        &["run "],
+        &["init", "run"],
+        &["drill", "0"],
+    ];
     for words in lines {
         let mut host = MemHost::new(rt.alloc());
         let mut source = source_of(rt.alloc(), LOADED.as_bytes(), 1)?;

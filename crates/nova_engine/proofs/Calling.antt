@@ -93,15 +93,15 @@ still h a mid b s same said is stands = (quiet a mid b said is, rw is (stands_sa
 
 pub told_unopened : (h : Bool) (why : Unopened) (status : Status) (a mid b : List Event) (input : List ℕ) (left : Option (List ℕ)) → left ≡ Some input → (IsTrue h → UnopenedTold why (current a))
     → (IsTrue h → (n : ℕ) → current mid n ≡ current a n) → (IsTrue h → replies mid ≡ replies a) → EndsUnopened h why status mid b → Told (code_of status) h (Stands (current a)) input left a b
-told_unopened h unopened.Disk status a mid b input left is told same said ends = rw ends.0 (unopened_told 3 h (Stands (current a)) input left a b is (λ e. omega (arith, e)) (λ e. omega (arith, e))
+told_unopened h unopened.Disk status a mid b input left is told same said ends = rw ends.0 (unopened_told 3 h (Stands (current a)) input left a b is (λ e. omega (arith, e)) (λ e. omega (arith, e)) (λ e. omega (arith, e))
     (λ honest s stands. let is = still h a mid b s (same honest) (said honest) ends.1 stands in (λ e. omega (arith, e), is.0, is.1)))
-told_unopened h unopened.NoStore status a mid b input left is told same said ends = rw ends.0 (unopened_told 6 h (Stands (current a)) input left a b is (λ e. omega (arith, e)) (λ e. omega (arith, e))
+told_unopened h unopened.NoStore status a mid b input left is told same said ends = rw ends.0 (unopened_told 6 h (Stands (current a)) input left a b is (λ e. omega (arith, e)) (λ e. omega (arith, e)) (λ e. omega (arith, e))
     (λ honest s stands. absurd (marked_not (current a) stands.generation stands.marked (told honest))))
-told_unopened h unopened.Memory status a mid b input left is told same said ends = rw ends.0 (unopened_told 5 h (Stands (current a)) input left a b is (λ e. omega (arith, e)) (λ e. omega (arith, e))
+told_unopened h unopened.Memory status a mid b input left is told same said ends = rw ends.0 (unopened_told 5 h (Stands (current a)) input left a b is (λ e. omega (arith, e)) (λ e. omega (arith, e)) (λ e. omega (arith, e))
     (λ honest s stands. let is = still h a mid b s (same honest) (said honest) ends.1 stands in (λ e. omega (arith, e), is.0, is.1)))
-told_unopened h (unopened.Damaged file at) Damaged a mid b input left is told same said ends = unopened_told 9 h (Stands (current a)) input left a b is (λ e. omega (arith, e)) (λ e. omega (arith, e))
+told_unopened h (unopened.Damaged file at) Damaged a mid b input left is told same said ends = unopened_told 9 h (Stands (current a)) input left a b is (λ e. omega (arith, e)) (λ e. omega (arith, e)) (λ e. omega (arith, e))
     (λ honest s stands. absurd (stands_not_bad (current a) s file at stands (told honest)))
-told_unopened h (unopened.Damaged file at) ReplyFault a mid b input left is told same said ends = unopened_told 4 h (Stands (current a)) input left a b is (λ e. omega (arith, e)) (λ e. omega (arith, e))
+told_unopened h (unopened.Damaged file at) ReplyFault a mid b input left is told same said ends = unopened_told 4 h (Stands (current a)) input left a b is (λ e. omega (arith, e)) (λ e. omega (arith, e)) (λ e. omega (arith, e))
     (λ honest s stands. absurd (stands_not_bad (current a) s file at stands (told honest)))
 told_unopened h (unopened.Damaged file at) Done a mid b input left is told same said ends = absurd ends
 told_unopened h (unopened.Damaged file at) Usage a mid b input left is told same said ends = absurd ends
@@ -137,6 +137,7 @@ replies_from status s input taken a mid b said told = record {
   within = told.within;
   whole = told.whole;
   held = told.held;
+  full = told.full;
   cut = told.cut;
   done = told.done;
 }

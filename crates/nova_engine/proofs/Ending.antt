@@ -76,8 +76,8 @@ within_taken s xs ys =
     front_of xs ys some = let fits : length xs - 1 ≤ length xs = omega arith in take-append-le (length xs - 1) xs ys fits
 
 -- the call ended between two commands
-between : (h : Bool) (status : ℕ) (s : State) (reader : LineReader) (a b : List Event) (input bytes rest : List ℕ) → Reaches h s reader a b bytes → input ≡ bytes ++ rest → status ≢ 0 → IsTrue h → RepliesTold status s input bytes a b
-between h status s reader a b input bytes rest reaches is other honest =
+between : (h : Bool) (status : ℕ) (s : State) (reader : LineReader) (a b : List Event) (input bytes rest : List ℕ) → Reaches h s reader a b bytes → input ≡ bytes ++ rest → status ≢ 0 → status ≢ 10 → IsTrue h → RepliesTold status s input bytes a b
+between h status s reader a b input bytes rest reaches is other ten honest =
     let taken = reaches.advances.commands in
     let xs = steps s taken in
     let ys = steps (after_all s xs) (commands_at reaches.to rest) in
@@ -91,13 +91,14 @@ between h status s reader a b input bytes rest reaches is other honest =
       within = rw all (within_taken s xs ys);
       whole = λ _. rw (all, take-append_seam xs ys) refl;
       held = inl (rw (all, take-append_seam xs ys) (rw reaches.advances.state at (keeps_stands _ _ b reaches.to.state (reaches.at.stands.keeps honest))));
+      full = λ e. absurd (ten e);
       cut = λ _. rw whole (refl, refl);
       done = λ e. absurd (other e);
     }
 
 pub told_between : (status : ℕ) (h : Bool) (store : Store) (reader : LineReader) (a b : List Event) (left now : Option (List ℕ)) (taken : ℕ) (input : List ℕ) → Reached h store reader a b left now taken
-    → left ≡ Some input → status ≢ 0 → ((status ≡ 6) ⊎ (status ≡ 9) → ⊥) → taken ≤ 2 ^ 40 + 1 → (status ≡ 11 → 2 ^ 40 < taken) → (status ≡ 2 → taken ≤ 2 ^ 40) → Told status h (StandsFor h store a) input now a b
-told_between status h store reader a b left now taken input reached is other read bound long short =
+    → left ≡ Some input → status ≢ 0 → status ≢ 10 → ((status ≡ 6) ⊎ (status ≡ 9) → ⊥) → taken ≤ 2 ^ 40 + 1 → (status ≡ 11 → 2 ^ 40 < taken) → (status ≡ 2 → taken ≤ 2 ^ 40) → Told status h (StandsFor h store a) input now a b
+told_between status h store reader a b left now taken input reached is other ten read bound long short =
     let known = consumed_known left now input reached.bytes is reached.consumed in
     record {
       taken = reached.bytes;
@@ -109,7 +110,7 @@ told_between status h store reader a b left now taken input reached is other rea
       long = λ e. rw reached.counted (long e);
       short = λ e. elim e [ inl zero_is ↦ absurd (other zero_is) | inr two_is ↦ rw reached.counted (short two_is) ];
       unread = λ e. absurd (read e);
-      replies = λ honest s stands. between h status s reader a b input reached.bytes known.0 (reached.moves s stands) known.2 other honest;
+      replies = λ honest s stands. between h status s reader a b input reached.bytes known.0 (reached.moves s stands) known.2 other ten honest;
     }
 
 -- a session that stopped is neither done, nor one whose read failed or whose input was too long
@@ -148,6 +149,12 @@ not_unread stop (inr nine) = not_nine stop nine
     not_nine Full e = omega (arith, e)
     not_nine Memory e = omega (arith, e)
 
+is_full : (stop : Stop) → code_of (stop_status stop) ≡ 10 → stop ≡ Full
+is_full Full e = refl
+is_full Disk e = absurd (omega (arith, e))
+is_full Reply e = absurd (omega (arith, e))
+is_full Memory e = absurd (omega (arith, e))
+
 stop_is : (stop : Stop) → code_of (stop_status stop) ≢ 4 → stop ≢ Reply
 stop_is stop other e = other (ap (λ x. code_of (stop_status x)) e)
 
@@ -160,6 +167,7 @@ stopped_replies stop s input taken a b stops = record {
   within = stops.within;
   whole = λ other. stops.whole (stop_is stop other);
   held = elim stops.held [ inl same ↦ inl same | inr next ↦ inr (ap (λ x. code_of (stop_status x)) next.0, next.1) ];
+  full = λ e. stops.full (is_full stop e);
   cut = λ e. elim e [ inl two ↦ absurd (not_read stop two) | inr eleven ↦ absurd (not_long stop eleven) ];
   done = λ e. absurd (not_done stop e);
 }
@@ -232,6 +240,7 @@ told_finish (Ok u) h store reader a b c left now taken input reached end finishe
             };
             whole = λ _. rw (take-length (session_steps s input)) refl;
             held = inl (rw (take-length (session_steps s input), all, after_commands s done left_over) (rest.held honest));
+            full = λ e. absurd (omega (arith, e));
             cut = λ e. absurd (elim e [ inl two ↦ omega (arith, two) | inr eleven ↦ omega (arith, eleven) ]);
             done = λ _. (refl, refl);
           };
@@ -263,9 +272,9 @@ told_finish (Err stop) h store reader a b c left now taken input reached end sto
 -- ---- a store that wasn't opened
 
 -- nothing was taken
-pub unopened_told : (status : ℕ) (h : Bool) (MayOpen : State → Type 0) (input : List ℕ) (left : Option (List ℕ)) (a b : List Event) → left ≡ Some input → status ≢ 0 → status ≢ 11
+pub unopened_told : (status : ℕ) (h : Bool) (MayOpen : State → Type 0) (input : List ℕ) (left : Option (List ℕ)) (a b : List Event) → left ≡ Some input → status ≢ 0 → status ≢ 10 → status ≢ 11
     → (IsTrue h → (s : State) → MayOpen s → (status ≢ 2) × Adds a b [] × Stands (current b) s) → Told status h MayOpen input left a b
-unopened_told status h MayOpen input left a b is zero long told = record {
+unopened_told status h MayOpen input left a b is zero ten long told = record {
   taken = [];
   rest = input;
   left_is = is;
@@ -285,6 +294,7 @@ unopened_told status h MayOpen input left a b is zero long told = record {
         within = record { front = begins_nothing (text s []); behind = λ some. absurd (omega arith) };
         whole = λ _. refl;
         held = inl is.2;
+        full = λ e. absurd (ten e);
         cut = λ e. absurd (elim e [ inl two ↦ is.0 two | inr eleven ↦ long eleven ]);
         done = λ e. absurd (zero e);
       };

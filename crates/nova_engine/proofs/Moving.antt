@@ -1,5 +1,5 @@
 -- A session moves on.
-use Rattle.std.proofs.Common.{◌≡◌, ◌≢◌, ◌⊎◌, inl, inr, ℕ, zero, suc, ◌+◌, ◌-◌, ◌<◌, ◌≤◌, Bool, false, List, [], ◌∷◌, ◌++◌, length, take, Option, Some, None, Result, Ok, Err, IfOk, refl, sym, ap, ◌∙◌, append_assoc, arith, length-append}
+use Rattle.std.proofs.Common.{◌≡◌, ◌≢◌, ◌⊎◌, inl, inr, ℕ, zero, suc, ◌+◌, ◌-◌, ◌<◌, ◌≤◌, Bool, false, List, [], ◌∷◌, ◌++◌, length, take, Option, Some, None, Result, Ok, Err, IfOk, IfErr, refl, sym, ap, ◌∙◌, append_assoc, arith, length-append, length-take}
 use Rattle.std.proofs.lemmas.List.{take-append-le, append-nil}
 use Rattle.std.proofs.Math.Seq.{take-append-add}
 use Rattle.std.specs.Result.{MatchResult}
@@ -9,7 +9,7 @@ use Rattle.nova_outside.specs.History.{Event, Begins, current, replies}
 use Rattle.nova_outside.proofs.ReplyLemmas.{begins_behind, begins_more}
 use Rattle.nova_machine.specs.Lines.{lines_of, whole_lines_of}
 use Rattle.nova_machine.specs.State.{State}
-use Rattle.nova_machine.specs.Steps.{Step, after, after_all}
+use Rattle.nova_machine.specs.Steps.{Step, Load, after, after_all}
 use Rattle.nova_machine.specs.Commands.{Command, steps, ended_commands}
 use Rattle.nova_machine.specs.Replies.{text, reply_to}
 use Rattle.nova_machine.proofs.Turns.{after_all-append, text-append, steps-append}
@@ -20,8 +20,8 @@ use Rattle.nova_engine.specs.declared.kept.Store.{Store}
 use Rattle.nova_engine.specs.declared.load.Pending.{Pending}
 use Rattle.nova_engine.proofs.Storing.{keeps_stands}
 use Rattle.nova_engine.specs.Positions.{Loading, Position, load_after, ended_by, commands_in, commands_at, whole_commands_at}
-use Rattle.nova_engine.specs.declared.stop.Stop.TheVariants.{Disk}
-use Rattle.nova_engine.specs.Steps.{Adds, Adding, IsWithin, StopsIn}
+use Rattle.nova_engine.specs.declared.stop.Stop.TheVariants.{Disk, Memory}
+use Rattle.nova_engine.specs.Steps.{Adds, Adding, IsWithin, NoRoom, StopsIn}
 use Rattle.nova_engine.specs.Stored.{Stands}
 use Rattle.nova_engine.specs.Standing.{StandsForPending, ClosesLoad, MovesLine, BreaksLine}
 use Rattle.nova_engine.specs.Moves.{IsAt, Advances, Breaks, MovesOn, BreaksOn, Finished, Finishes, StopsFinish, TakesLast, Ends, StopsEnd}
@@ -81,6 +81,31 @@ held_behind stop files s xs ys k held =
       | inr next ↦ inr (next.0, rw (count, after_past s xs ys (k + 1)) next.1)
     ]
 
+no_room-behind : (files : Files) (xs ys : List Step) (k : ℕ) → NoRoom files ys k → NoRoom files (xs ++ ys) (length xs + k)
+no_room-behind files xs ys k is =
+    let count : length xs + k + 1 ≡ length xs + (k + 1) = omega arith in
+    record {
+      payload = is.payload;
+      entries = is.entries;
+      read = is.read;
+      next = ap (λ n. take n (xs ++ ys)) count ∙ take-append-add xs ys (k + 1) ∙ ap (λ zs. xs ++ zs) is.next
+          ∙ sym (append_assoc xs (take k ys) (Load 0 is.entries ∷ [])) ∙ ap (λ zs. zs ++ Load 0 is.entries ∷ []) (sym (take-append-add xs ys k));
+      full = is.full;
+    }
+
+no_room-before : (files : Files) (xs ys : List Step) (k : ℕ) → NoRoom files xs k → NoRoom files (xs ++ ys) k
+no_room-before files xs ys k is =
+    let long : length (take (k + 1) xs) ≡ length (take k xs) + 1 = ap length is.next ∙ length-append (take k xs) (Load 0 is.entries ∷ []) in
+    let next : k + 1 ≤ length xs = omega (arith, long, length-take (k + 1) xs, length-take k xs) in
+    let here : k ≤ length xs = omega (arith, next) in
+    record {
+      payload = is.payload;
+      entries = is.entries;
+      read = is.read;
+      next = take-append-le (k + 1) xs ys next ∙ is.next ∙ ap (λ zs. zs ++ Load 0 is.entries ∷ []) (sym (take-append-le k xs ys here));
+      full = is.full;
+    }
+
 pub stops_behind : (stop : Stop) (h : Bool) (s : State) (xs ys : List Step) (a b c : List Event) → Adding h a b (text s xs) → StopsIn stop h (after_all s xs) ys b c → StopsIn stop h s (xs ++ ys) a c
 stops_behind stop h s xs ys a b c adds stops honest =
     let two = stops honest in
@@ -92,6 +117,7 @@ stops_behind stop h s xs ys a b c adds stops honest =
       within = within_behind s xs ys two.k two.given two.within;
       whole = λ other. ap (λ t. text s xs ++ t) (two.whole other) ∙ sym (text_past s xs ys two.k);
       held = held_behind stop (current c) s xs ys two.k two.held;
+      full = λ e. no_room-behind (current c) xs ys two.k (two.full e);
     }
 
 after_before : (s : State) (xs ys : List Step) (n : ℕ) → n ≤ length xs → after_all s (take n (xs ++ ys)) ≡ after_all s (take n xs)
@@ -130,6 +156,7 @@ stops_before stop h s xs ys a b stops honest =
       within = record { front = rw front one.within.front; behind = λ some. rw last (one.within.behind some) };
       whole = λ other. one.whole other ∙ sym front;
       held = held_before stop (current b) s xs ys one.k one.fits one.held;
+      full = λ e. no_room-before (current b) xs ys one.k (one.full e);
     }
 
 -- ---- commands behind commands
@@ -205,10 +232,10 @@ breaks_before stop h r a b xs ys one p at =
       cut = λ more. let rest = broke.cut (ys ++ more) in (rest.0, ap (commands_at p) (append_assoc xs ys more) ∙ rest.1);
     }
 
-pub breaks_at_once : (stop : Stop) (h : Bool) (r : LineReader) (a : List Event) (bytes : List ℕ) → BreaksOn stop h r a a bytes
-breaks_at_once stop h r a bytes p at = record {
+pub breaks_at_once : (h : Bool) (r : LineReader) (a : List Event) (bytes : List ℕ) → BreaksOn Memory h r a a bytes
+breaks_at_once h r a bytes p at = record {
   commands = [];
-  stops = stops_at_once stop h p.state [] r.session.store a at.stands;
+  stops = stops_at_once h p.state [] r.session.store a at.stands;
   cut = λ more. (commands_at p (bytes ++ more), refl);
 }
 
@@ -328,7 +355,7 @@ next_bytes bytes done rest line more all is =
 
 -- behind the last newline the bytes are kept, where there is memory
 pub moves_kept : (h : Bool) (r : Result LineReader Stop) (old mid : LineReader) (a b : List Event) (bytes done rest : List ℕ) → bytes ≡ done ++ rest → MovesOn h old mid a b done
-    → IfOk r (λ new. new.session ≡ mid.session) → IfOk r (λ new. new.carry.items ≡ mid.carry.items ++ rest)
+    → IfOk r (λ new. new.session ≡ mid.session) → IfOk r (λ new. new.carry.items ≡ mid.carry.items ++ rest) → IfErr r (λ stop. stop ≡ Memory)
     → MatchResult r (λ new. MovesOn h old new a b bytes) (λ stop. BreaksOn stop h old a b bytes)
-moves_kept h (Ok new) old mid a b bytes done rest all moves same carry = rw all (moves_both h old mid new a b b done rest moves (moves_carry h mid new b rest same carry))
-moves_kept h (Err stop) old mid a b bytes done rest all moves same carry = rw all (breaks_behind stop h old mid a b b done rest moves (breaks_at_once stop h mid b rest))
+moves_kept h (Ok new) old mid a b bytes done rest all moves same carry memory = rw all (moves_both h old mid new a b b done rest moves (moves_carry h mid new b rest same carry))
+moves_kept h (Err stop) old mid a b bytes done rest all moves same carry memory = rw (all, memory) (breaks_behind Memory h old mid a b b done rest moves (breaks_at_once h mid b rest))

@@ -6,7 +6,7 @@ use Rattle.nova_outside.specs.Disk.{Files, SameBut, Only, OneChanges}
 use Rattle.nova_outside.specs.History.{Event, Replied, Valid, current, replies, Outcome, Since, LeftNow, Meanwhile}
 use Rattle.nova_outside.proofs.Outcomes.{stays}
 use Rattle.nova_outside.specs.Replies.{HasReplied, Gives, GivesInPart, after_replies}
-use Rattle.nova_journal.specs.Log.{IsLog, LogTo, BeforeOrAfter}
+use Rattle.nova_journal.specs.Log.{IsLog, LogTo, BeforeOrAfter, frame}
 use Rattle.nova_journal.specs.Marks.{IsIn, IsMark, Holds}
 use Rattle.nova_journal.proofs.Generations.{mark_apart}
 use Rattle.nova_machine.specs.State.{State, start}
@@ -101,14 +101,16 @@ append_done g e g' e' old new payload s es keeps is same_number added same settl
 pub append_stopped : (fault : LogFault) (g e : ℕ) (old new : List Event) (payload : List ℕ) (s : State) (es : List Entry) (before now total : ℕ) → AppendCause before now e total fault → Keeps g e old s → load_of payload ≡ Some es → Valid new
     → ((payloads : List (List ℕ)) → LogTo e payloads (current old (4 * g)) → Only (current old (4 * g)) (Outcome old (4 * g))
       → Meanwhile (OneChanges (4 * g) (BeforeOrAfter payloads payload) (Outcome old) (replies old)) old new)
-    → SameBut (4 * g) (current old) (current new) → replies new ≡ replies old → (2 ^ 62 < total → new ≡ old) → AppendStops (append_stop fault) s (after s (Load 0 es)) old new
-append_stopped fault.Disk g e old new payload s es before now total cause keeps is valid moments same said full = (adds_nothing old new said, append_failed g e old new payload s es keeps is valid moments same)
-append_stopped (fault.Full at) g e old new payload s es before now total cause keeps is valid moments same said full =
+    → SameBut (4 * g) (current old) (current new) → replies new ≡ replies old → (2 ^ 62 < total → new ≡ old) → total ≡ e + length (frame payload) → AppendStops (append_stop fault) payload s (after s (Load 0 es)) old new
+append_stopped fault.Disk g e old new payload s es before now total cause keeps is valid moments same said full size = (adds_nothing old new said, append_failed g e old new payload s es keeps is valid moments same)
+append_stopped (fault.Full at) g e old new payload s es before now total cause keeps is valid moments same said full size =
     let still : new ≡ old = full cause.0 in
-    (adds_same old new still, rw still (keeps_stands g e old s keeps))
-append_stopped fault.NoStore g e old new payload s es before now total cause keeps is valid moments same said full = absurd cause
-append_stopped (fault.Damaged file at) g e old new payload s es before now total cause keeps is valid moments same said full = absurd cause
-append_stopped fault.NoMemory g e old new payload s es before now total cause keeps is valid moments same said full = absurd cause
+    let past : 2 ^ 62 < e + length (frame payload) = rw size at cause.0 in
+    (adds_same old new still, rw still (keeps_stands g e old s keeps),
+      rw still (record { generation = g; marked = keeps.marked; payloads = keeps.payloads; end = e; log = keeps.holds.log; past = past }))
+append_stopped fault.NoStore g e old new payload s es before now total cause keeps is valid moments same said full size = absurd cause
+append_stopped (fault.Damaged file at) g e old new payload s es before now total cause keeps is valid moments same said full size = absurd cause
+append_stopped fault.NoMemory g e old new payload s es before now total cause keeps is valid moments same said full size = absurd cause
 
 -- ---- calls that only reply
 

@@ -99,11 +99,12 @@ stops_reply h s x xs store a b is still stands broke honest =
       within = record { front = rw append-nil part.front; behind = λ some. begins_nothing part.given };
       whole = λ other. absurd (other refl);
       held = inl (rw still held);
+      full = λ e. cc;
     })
 
 -- nothing was replied, and no step is claimed
-pub stops_at_once : (stop : Stop) (h : Bool) (s : State) (xs : List Step) (store : Store) (a : List Event) → StandsFor h store a s → StopsIn stop h s xs a a
-stops_at_once stop h s xs store a stands honest = record {
+pub stops_at_once : (h : Bool) (s : State) (xs : List Step) (store : Store) (a : List Event) → StandsFor h store a s → StopsIn Memory h s xs a a
+stops_at_once h s xs store a stands honest = record {
   k = 0;
   fits = omega arith;
   given = [];
@@ -111,6 +112,7 @@ stops_at_once stop h s xs store a stands honest = record {
   within = record { front = ([], refl); behind = λ some. absurd (omega arith) };
   whole = λ other. refl;
   held = inl (keeps_stands _ _ a s (stands.keeps honest));
+  full = λ e. cc;
 }
 
 merged_raw : (m : TableValue) (schema : Shape) (es : List Entry) (d : DeltaValue) → schema ≡ raw_schema → d ≡ raw_delta es
@@ -148,6 +150,7 @@ stops_load Reply h old payload s entries xs a b is stands read breaks honest =
       within = record { front = rw append-nil broke.1; behind = λ some. begins_nothing broke.0 };
       whole = λ other. absurd (other refl);
       held = inl broke.3;
+      full = λ e. cc;
     })
 stops_load Disk h old payload s entries xs a b is stands read breaks honest =
     let broke = breaks honest s entries (stands.keeps honest) read in
@@ -159,6 +162,7 @@ stops_load Disk h old payload s entries xs a b is stands read breaks honest =
       within = record { front = ([], refl); behind = λ some. absurd (omega arith) };
       whole = λ other. refl;
       held = elim broke.1 [ inl same ↦ inl same | inr next ↦ inr (refl, next) ];
+      full = λ e. cc;
     })
 stops_load Full h old payload s entries xs a b is stands read breaks honest =
     let broke = breaks honest s entries (stands.keeps honest) read in
@@ -170,6 +174,7 @@ stops_load Full h old payload s entries xs a b is stands read breaks honest =
       within = record { front = ([], refl); behind = λ some. absurd (omega arith) };
       whole = λ other. refl;
       held = inl broke.1;
+      full = λ e. record { payload = payload; entries = entries; read = read; next = refl; full = broke.2 };
     })
 stops_load Memory h old payload s entries xs a b is stands read breaks honest =
     let broke = breaks honest s entries (stands.keeps honest) read in
@@ -181,4 +186,5 @@ stops_load Memory h old payload s entries xs a b is stands read breaks honest =
       within = record { front = ([], refl); behind = λ some. absurd (omega arith) };
       whole = λ other. refl;
       held = inl broke.1;
+      full = λ e. cc;
     })

@@ -21,7 +21,7 @@ use Rattle.nova_journal.specs.declared.fault.LogFault.TheVariants as fault
 use Rattle.nova_engine.specs.Flow.{raw_flow, raw_schema}
 use Rattle.nova_engine.specs.Positions.{Loading, with_row, load_after, ended_by}
 use Rattle.nova_engine.specs.Steps.{Adds, Adding, StopsIn}
-use Rattle.nova_engine.specs.Stored.{Keeps, Stands, load_of, with_newlines}
+use Rattle.nova_engine.specs.Stored.{IsFull, Keeps, Stands, load_of, with_newlines}
 use Rattle.nova_engine.specs.Words.{names_raw}
 
 -- the store holds the newest version of the one channel, and its journal in the host the loads that led there
@@ -126,11 +126,11 @@ pub record Loaded (s next : State) (new : Store) (a b : List Event) (line : List
   pub keeps : Keeps new.journal.generation new.journal.length b next
 
 -- a load that stopped: only where a reply failed was any of its line given, and then the journal holds it; after a fault of the disk it may
-abbrev pub LoadStops : Stop → State → State → List Event → List Event → List ℕ → Type 0
-LoadStops Disk s next a b line = Adds a b [] × (Stands (current b) s ⊎ Stands (current b) next)
-LoadStops Reply s next a b line = (given : List ℕ) × Begins given line × Adds a b given × Stands (current b) next
-LoadStops Full s next a b line = Adds a b [] × Stands (current b) s
-LoadStops Memory s next a b line = Adds a b [] × Stands (current b) s
+abbrev pub LoadStops : Stop → List ℕ → State → State → List Event → List Event → List ℕ → Type 0
+LoadStops Disk payload s next a b line = Adds a b [] × (Stands (current b) s ⊎ Stands (current b) next)
+LoadStops Reply payload s next a b line = (given : List ℕ) × Begins given line × Adds a b given × Stands (current b) next
+LoadStops Full payload s next a b line = Adds a b [] × Stands (current b) s × IsFull (current b) payload
+LoadStops Memory payload s next a b line = Adds a b [] × Stands (current b) s
 
 -- the same of each state that the journal held, where the payload is a load's
 abbrev pub LoadsFrom : Bool → Store → Store → List ℕ → List Event → List Event → List ℕ → Type 0
@@ -141,18 +141,18 @@ LoadsFrom is_honest old new payload a b line =
 abbrev pub LoadBreaks : Stop → Bool → Store → List ℕ → List Event → List Event → List ℕ → Type 0
 LoadBreaks stop is_honest old payload a b line =
     IsTrue is_honest → (s : State) (entries : List Entry) → Keeps old.journal.generation old.journal.length a s → load_of payload ≡ Some entries
-    → LoadStops stop s (after s (Load 0 entries)) a b line
+    → LoadStops stop payload s (after s (Load 0 entries)) a b line
 
 -- what appending a load leaves
 pub record Appended (next : State) (new : Journal) (a b : List Event) : Type 0 where
   pub adds : Adds a b []
   pub keeps : Keeps new.generation new.length b next
 
-abbrev pub AppendStops : Stop → State → State → List Event → List Event → Type 0
-AppendStops Disk s next a b = Adds a b [] × (Stands (current b) s ⊎ Stands (current b) next)
-AppendStops Reply s next a b = ⊥
-AppendStops Full s next a b = Adds a b [] × Stands (current b) s
-AppendStops Memory s next a b = Adds a b [] × Stands (current b) s
+abbrev pub AppendStops : Stop → List ℕ → State → State → List Event → List Event → Type 0
+AppendStops Disk payload s next a b = Adds a b [] × (Stands (current b) s ⊎ Stands (current b) next)
+AppendStops Reply payload s next a b = ⊥
+AppendStops Full payload s next a b = Adds a b [] × Stands (current b) s × IsFull (current b) payload
+AppendStops Memory payload s next a b = Adds a b [] × Stands (current b) s
 
 abbrev pub Appends : Bool → Journal → Journal → List ℕ → List Event → List Event → Type 0
 Appends is_honest old new payload a b =
@@ -162,7 +162,7 @@ Appends is_honest old new payload a b =
 abbrev pub AppendBreaks : Stop → Bool → Journal → List ℕ → List Event → List Event → Type 0
 AppendBreaks stop is_honest old payload a b =
     IsTrue is_honest → (s : State) (entries : List Entry) → Keeps old.generation old.length a s → load_of payload ≡ Some entries
-    → AppendStops stop s (after s (Load 0 entries)) a b
+    → AppendStops stop payload s (after s (Load 0 entries)) a b
 
 -- why a load's record wasn't written
 abbrev pub append_stop : LogFault → Stop

@@ -1,13 +1,15 @@
 -- Steps of the machine, the replies that were given of them, and what the files hold behind them.
-use Rattle.std.specs.Prelude.{◌≡◌, ◌≢◌, ◌⊎◌, ℕ, ◌+◌, ◌-◌, ◌<◌, ◌≤◌, Bool, List, [], ◌++◌, length, take, IsTrue, Result, IsErrOf}
+use Rattle.std.specs.Prelude.{◌≡◌, ◌≢◌, ◌⊎◌, ℕ, ◌+◌, ◌-◌, ◌<◌, ◌≤◌, Bool, List, [], ◌∷◌, ◌++◌, Some, length, take, IsTrue, Result, IsErrOf}
 use Rattle.nova_outside.specs.Causes.{Rose}
+use Rattle.nova_value.specs.declared.schema.Entry.{Entry}
+use Rattle.nova_outside.specs.Disk.{Files}
 use Rattle.nova_outside.specs.History.{Event, Begins, current, replies}
 use Rattle.nova_machine.specs.State.{State}
-use Rattle.nova_machine.specs.Steps.{Step, after_all}
+use Rattle.nova_machine.specs.Steps.{Step, Load, after_all}
 use Rattle.nova_machine.specs.Replies.{text}
 use Rattle.nova_engine.specs.declared.stop.Stop.{Stop}
-use Rattle.nova_engine.specs.declared.stop.Stop.TheVariants.{Disk, Reply}
-use Rattle.nova_engine.specs.Stored.{Stands}
+use Rattle.nova_engine.specs.declared.stop.Stop.TheVariants.{Disk, Reply, Full}
+use Rattle.nova_engine.specs.Stored.{IsFull, Stands, load_of}
 
 -- these bytes were replied
 abbrev pub Adds : List Event → List Event → List ℕ → Type 0
@@ -22,6 +24,14 @@ pub record IsWithin (s : State) (xs : List Step) (k : ℕ) (given : List ℕ) : 
   pub front : Begins given (text s (take k xs))
   pub behind : 0 < k → Begins (text s (take (k - 1) xs)) given
 
+-- the step behind the first k is a load, and the journal has no room for it
+pub record NoRoom (files : Files) (xs : List Step) (k : ℕ) : Type 0 where
+  pub payload : List ℕ
+  pub entries : List Entry
+  pub read : load_of payload ≡ Some entries
+  pub next : take (k + 1) xs ≡ take k xs ++ Load 0 entries ∷ []
+  pub full : IsFull files payload
+
 -- The call stopped within the first k of these steps; but for a failed reply, right behind them. The files hold the state behind them, or, after a fault of the disk, perhaps behind one step more.
 pub record Stops (stop : Stop) (s : State) (xs : List Step) (old new : List Event) : Type 0 where
   pub k : ℕ
@@ -31,6 +41,7 @@ pub record Stops (stop : Stop) (s : State) (xs : List Step) (old new : List Even
   pub within : IsWithin s xs k given
   pub whole : stop ≢ Reply → given ≡ text s (take k xs)
   pub held : Stands (current new) (after_all s (take k xs)) ⊎ ((stop ≡ Disk) × Stands (current new) (after_all s (take (k + 1) xs)))
+  pub full : stop ≡ Full → NoRoom (current new) xs k
 
 -- the same of a host that is honest
 abbrev pub StopsIn : Stop → Bool → State → List Step → List Event → List Event → Type 0

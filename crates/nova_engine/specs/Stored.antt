@@ -1,10 +1,10 @@
 -- What a store's files hold: a journal of loads.
-use Rattle.std.specs.Prelude.{◌≡◌, ℕ, ◌+◌, ◌*◌, ◌==◌, Bool, true, false, ◌&&◌, List, [], ◌∷◌, ◌++◌, length, Option, Some, None, option_map, Result, Ok, Err, codes, if◌then◌else◌, is_some}
+use Rattle.std.specs.Prelude.{◌≡◌, ℕ, ◌+◌, ◌*◌, ◌^◌, ◌<◌, ◌==◌, Bool, true, false, ◌&&◌, List, [], ◌∷◌, ◌++◌, length, Option, Some, None, option_map, Result, Ok, Err, codes, if◌then◌else◌, is_some}
 use Rattle.std.specs.Str.{bytes_eq}
 use Rattle.nova_value.specs.declared.schema.Entry.{Entry}
 use Rattle.nova_outside.specs.Disk.{Files, Only}
 use Rattle.nova_outside.specs.History.{Event, current, Outcome}
-use Rattle.nova_journal.specs.Log.{IsLog}
+use Rattle.nova_journal.specs.Log.{IsLog, LogTo, frame}
 use Rattle.nova_journal.specs.Marks.{IsMark, Holds}
 use Rattle.nova_machine.specs.Lines.{whole_lines_of}
 use Rattle.nova_machine.specs.State.{State, start}
@@ -62,6 +62,15 @@ pub record Stands (files : Files) (s : State) : Type 0 where
   pub payloads : List (List ℕ)
   pub log : IsLog payloads (files (4 * generation))
   pub stored : AreStored payloads s
+
+-- the journal of these files has no room for a load: with its record it would be longer than 2^62 bytes
+pub record IsFull (files : Files) (payload : List ℕ) : Type 0 where
+  pub generation : ℕ
+  pub marked : IsMark files (Some generation)
+  pub payloads : List (List ℕ)
+  pub end : ℕ
+  pub log : LogTo end payloads (files (4 * generation))
+  pub past : 2 ^ 62 < end + length (frame payload)
 
 -- an open journal of this generation and length holds the state, and nothing is pending on its file
 pub record Keeps (generation end : ℕ) (h : List Event) (s : State) : Type 0 where

@@ -18,7 +18,7 @@ returns-then-holds_nothing-clause-moves g c =
 pub returns-in_err-extend_from_slice-clause-moves : goal.returns-in_err-extend_from_slice-clause-moves
 returns-in_err-extend_from_slice-clause-moves g c =
     let p = err_from_is_err_and c.from_residual-in_err-extend_from_slice.result c.from_residual-in_err-extend_from_slice.ensures.1 in
-    rw p.1 (breaks_at_once _ _ _ _ _)
+    rw (p.1, p.2) (breaks_at_once _ _ _ _)
 
 pub take_line-requires-2-clause-line : goal.take_line-requires-2-clause-line
 take_line-requires-2-clause-line g c =

@@ -42,4 +42,4 @@ loop-line-preserved g c =
 pub returns-clause-moves : goal.returns-clause-moves
 returns-clause-moves g c =
     moves_kept _ c.carry_on.result c.args.reader c.loop-line.reader _ _ c.args.bytes.now c.loop-line.invariant.done c.loop-line.rest.now
-    c.loop-line.invariant.all c.loop-line.invariant.moves c.carry_on.ensures.session c.carry_on.ensures.carry
+    c.loop-line.invariant.all c.loop-line.invariant.moves c.carry_on.ensures.session c.carry_on.ensures.carry c.carry_on.ensures.memory

@@ -18,7 +18,7 @@ pub returns-in_default-clause-told : goal.returns-in_default-clause-told
 returns-in_default-clause-told g c = λ input is.
     told_between 2 _ c.args.store c.loop-taken.reader _ _ _ _ c.loop-taken.taken input
     (reached_kept _ _ _ _ _ _ _ _ _ c.loop-taken.invariant.reached c.in_default.ensures.bytes) is
-    (λ e. omega (arith, e)) (λ e. absurd (elim e [ inl six ↦ omega (arith, six) | inr nine ↦ omega (arith, nine) ])) (omega arith) (λ e. absurd (omega (arith, e))) (λ e. omega arith)
+    (λ e. omega (arith, e)) (λ e. omega (arith, e)) (λ e. absurd (elim e [ inl six ↦ omega (arith, six) | inr nine ↦ omega (arith, nine) ])) (omega arith) (λ e. absurd (omega (arith, e))) (λ e. omega arith)
 
 pub returns-then-count-eq0-clause-told : goal.returns-then-count-eq0-clause-told
 returns-then-count-eq0-clause-told g c = λ input is.
@@ -46,4 +46,4 @@ loop-taken-preserved g c = record {
 pub returns-clause-told : goal.returns-clause-told
 returns-clause-told g c = λ input is.
     told_between 11 _ c.args.store c.loop-taken.reader _ _ _ _ c.loop-taken.taken input c.loop-taken.invariant.reached is
-    (λ e. omega (arith, e)) (λ e. absurd (elim e [ inl six ↦ omega (arith, six) | inr nine ↦ omega (arith, nine) ])) c.loop-taken.invariant.limit (λ e. omega arith) (λ e. absurd (omega (arith, e)))
+    (λ e. omega (arith, e)) (λ e. omega (arith, e)) (λ e. absurd (elim e [ inl six ↦ omega (arith, six) | inr nine ↦ omega (arith, nine) ])) c.loop-taken.invariant.limit (λ e. omega arith) (λ e. absurd (omega (arith, e)))

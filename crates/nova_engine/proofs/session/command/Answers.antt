@@ -6,7 +6,7 @@ use Rattle.nova_engine.proofs.session.command.Goals as goal
 pub returns-in_err-pending-in-Load-clause-line : goal.returns-in_err-pending-in-Load-clause-line
 returns-in_err-pending-in-Load-clause-line g c =
     let p = err_from_is_err_and c.from_residual.result c.from_residual.ensures.1 in
-    rw p.1 (λ load is s stands. stops_at_once _ _ _ _ _ _ stands)
+    rw (p.1, p.2) (λ load is s stands. stops_at_once _ _ _ _ _ stands)
 
 pub returns-in_err-show-in-ShowRaw-clause-line : goal.returns-in_err-show-in-ShowRaw-clause-line
 returns-in_err-show-in-ShowRaw-clause-line g c =

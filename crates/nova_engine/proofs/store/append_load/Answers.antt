@@ -1,4 +1,4 @@
-use Rattle.std.proofs.Common.{◌≡◌, ◌∷◌, ◌++◌, [], ap, ◌∙◌}
+use Rattle.std.proofs.Common.{◌≡◌, ◌+◌, ◌∷◌, ◌++◌, [], List, ℕ, length, ap, ◌∙◌}
 use Rattle.nova_engine.proofs.Storing.{append_done, append_stopped, adds_nothing}
 use Rattle.nova_engine.proofs.store.append_load.Goals as goal
 
@@ -22,4 +22,4 @@ returns-clause-appends g c honest s entries keeps read =
     let framed = c.deref.ensures.value ∙ c.in_ok-framed.ensures in
     rw c.stop_of.ensures (append_stopped c.in-Err.fault _ _ _ _ c.args.payload.now s entries _ _ _ c.in-Err.ensures.cause keeps read (g.met.H.Host.valid c.append.new.host)
       (λ payloads log only. c.in-Err.ensures.any_moment honest payloads c.args.payload.now log framed only) (c.in-Err.ensures.others honest) (c.in-Err.ensures.replies honest)
-      (λ over. ap g.H.Host.history (c.in-Err.ensures.full over).1))
+      (λ over. ap g.H.Host.history (c.in-Err.ensures.full over).1) (ap (λ (bytes : List ℕ). c.args.journal.length + length bytes) framed))

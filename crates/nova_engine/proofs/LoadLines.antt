@@ -45,8 +45,8 @@ takes_line-row old (pending.Rows new) line e clean read is load stands =
         read = read_rows-row raw_schema 1 load.rows line are.entries e are.read (rw old.of_raw at read);
         made = is.0 ∙ delta_more old.delta are.entries e are.made;
         counted = omega (arith, is.1, are.counted, length-append load.rows (line ∷ []));
-      clean = lines-append load.rows line are.clean clean;
-      spelled = is.2 ∙ append_assoc old.payload.items line (10 ∷ []) ∙ ap (λ t. t ++ (line ++ 10 ∷ [])) are.spelled ∙ sym (with_newlines-append load.rows line);
+        clean = lines-append load.rows line are.clean clean;
+        spelled = is.2 ∙ append_assoc old.payload.items line (10 ∷ []) ∙ ap (λ t. t ++ (line ++ 10 ∷ [])) are.spelled ∙ sym (with_newlines-append load.rows line);
       },
     )
 

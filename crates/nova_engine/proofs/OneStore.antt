@@ -55,7 +55,7 @@ frame_fits : (framed : List ℕ) → framed ≡ frame flow_text → 2 ^ 62 < 1 +
 frame_fits framed is over =
     let head = length_bytes (length flow_text) in
     let long : length (frame flow_text) ≡ 8 + length flow_text + 1 =
-        omega (arith, length-append (entry flow_text) (0 ∷ []), length-append head flow_text, length-length_bytes (length flow_text)) in
+    omega (arith, length-append (entry flow_text) (0 ∷ []), length-append head flow_text, length-length_bytes (length flow_text)) in
     omega (arith, over, ap length is, long)
 
 pub create_stopped : (f : LogFault) (a b : List Event) (framed : List ℕ) (before now : ℕ) → AppendCause before now 1 (1 + length framed) f → framed ≡ frame flow_text → IsUnmarked 0 (current a)
@@ -82,7 +82,7 @@ pub mark_stopped : (f : LogFault) (a mid b : List Event) (end before now : ℕ) 
     → SameBut 0 (current a) (current mid) → SameBut 1 (current mid) (current b) → replies mid ≡ replies a → replies b ≡ replies mid → MakeStops (append_stop f) a b
 mark_stopped fault.Disk a mid b end before now cause holds unmarked made marked said quiet =
     let above : (y : ℕ) → 0 < y → current b (4 * y + 1) ≡ None =
-        λ y some. marked (4 * y + 1) (mark_other y some) ∙ made (4 * y + 1) (mark_apart 0 y) ∙ unmarked y (omega arith) in
+    λ y some. marked (4 * y + 1) (mark_other y some) ∙ made (4 * y + 1) (mark_apart 0 y) ∙ unmarked y (omega arith) in
     let apart : 4 * 0 ≢ 1 = λ is. omega (arith, is) in
     (adds_nothing a b (quiet ∙ said), new_or_none (current b) above (rw (marked (4 * 0) apart) holds.log.log))
 mark_stopped (fault.Full at) a mid b end before now cause holds unmarked made marked said quiet = absurd cause
@@ -116,8 +116,8 @@ marked_not files x marked none = none_some (files (4 * x + 1)) marked.0 (none x)
 pub one_mark : (files : Files) (x y : ℕ) → IsMark files (Some x) → IsMark files (Some y) → x ≡ y
 one_mark files x y one two =
     ⊎_elim (λ below. absurd (none_some (files (4 * y + 1)) two.0 (one.1 y below)))
-      (λ least. ⊎_elim (λ above. absurd (none_some (files (4 * x + 1)) one.0 (two.1 x above))) (λ most. omega (arith, least, most)) (cases_lt y x))
-      (cases_lt x y)
+    (λ least. ⊎_elim (λ above. absurd (none_some (files (4 * x + 1)) one.0 (two.1 x above))) (λ most. omega (arith, least, most)) (cases_lt y x))
+    (cases_lt x y)
 
 -- ---- files stand for one state, or are damaged at one place
 
@@ -176,10 +176,10 @@ stands_not_bad files s file at stands bad =
     let same = one_mark files stands.generation bad.generation stands.marked bad.marked in
     let log : IsLog stands.payloads (files file) = rw (bad.file_is, ← same) stands.log in
     ⊎_elim (λ damaged. not_damaged (files file) stands.payloads at (stored_some stands.payloads s stands.stored) log damaged)
-      (λ payload.
-        let agree = logs_agree (files file) stands.payloads payload.0 log (read_log_of payload.1 payload.0 (files file) payload.2) in
-        let no : None ≡ Some at = sym (no_bad_payload stands.payloads s stands.stored) ∙ ap bad_payload agree ∙ payload.3 in cc)
-      bad.place
+    (λ payload.
+    let agree = logs_agree (files file) stands.payloads payload.0 log (read_log_of payload.1 payload.0 (files file) payload.2) in
+    let no : None ≡ Some at = sym (no_bad_payload stands.payloads s stands.stored) ∙ ap bad_payload agree ∙ payload.3 in cc)
+    bad.place
 
 -- a file that isn't a store's is so at one place
 one_damage : (c : Option (List ℕ)) (at other : ℕ) → IsDamaged at c → IsDamaged other c → at ≡ other

@@ -97,8 +97,8 @@ pub payload_bad : (payload rest line more : List ℕ) (lines : List (List ℕ)) 
     → read_rows raw_schema 1 lines ≡ Ok es → row_of_text line raw_schema ≡ Err f → load_of payload ≡ None
 payload_bad payload rest line more lines es f all is are clean read bad =
     let cut : whole_lines_of payload ≡ (lines ++ line ∷ []) ++ whole_lines_of more =
-        ap whole_lines_of all ∙ whole_lines-before lines rest are ∙ ap (λ t. lines ++ whole_lines_of t) is ∙ ap (λ (ms : List (List ℕ)). lines ++ ms) (whole_lines_at line more clean)
-        ∙ sym (append_assoc lines (line ∷ []) (whole_lines_of more)) in
+    ap whole_lines_of all ∙ whole_lines-before lines rest are ∙ ap (λ t. lines ++ whole_lines_of t) is ∙ ap (λ (ms : List (List ℕ)). lines ++ ms) (whole_lines_at line more clean)
+    ∙ sym (append_assoc lines (line ∷ []) (whole_lines_of more)) in
     let bad_there = read_rows-bad_line raw_schema 1 (1 + length lines) lines line es f (omega arith) read bad in
     let none : read_rows raw_schema 1 (whole_lines_of payload) ≡ Err (1 + length lines) = ap (read_rows raw_schema 1) cut ∙ read_rows-bad_before (1 + length lines) 1 (lines ++ line ∷ []) (whole_lines_of more) bad_there in
     ap (λ (r : Result (List Entry) ℕ). if ends_whole payload then entries_read r else None) none ∙ either (ends_whole payload)

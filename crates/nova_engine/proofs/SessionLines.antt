@@ -83,11 +83,11 @@ pub closes_loaded : (h : Bool) (r : Result Store Stop) (old : Store) (rows : Row
 closes_loaded h (Ok new) old rows a b table version loads = λ load is s stands.
     let are = is.1 in
     takes_load h old new rows.payload.items s are.entries rows.delta (steps s (WithRows load.words load.rows true ∷ [])) a b (steps-load s load true (Ok are.entries) stands.flow is.0 are.read) stands are.made
-      (payload_reads load.rows rows.payload.items are.entries are.clean are.read are.spelled) table version (rw (← reply_loaded h old a s stands) loads)
+    (payload_reads load.rows rows.payload.items are.entries are.clean are.read are.spelled) table version (rw (← reply_loaded h old a s stands) loads)
 closes_loaded h (Err stop) old rows a b table version breaks = λ load is s stands.
     let are = is.1 in
     stops_load stop h old rows.payload.items s are.entries (steps s (WithRows load.words load.rows true ∷ [])) a b (steps-load s load true (Ok are.entries) stands.flow is.0 are.read) stands
-      (payload_reads load.rows rows.payload.items are.entries are.clean are.read are.spelled) (rw (← reply_loaded h old a s stands) breaks)
+    (payload_reads load.rows rows.payload.items are.entries are.clean are.read are.spelled) (rw (← reply_loaded h old a s stands) breaks)
 
 -- the reply to a show of the one channel
 reply_shown : (h : Bool) (store : Store) (a : List Event) (s : State) → StandsFor h store a s → row_lines store.table ++ shown_line (codes "raw") store.version (fin.len store.table.rows) ≡ reply_to s (Show 0)

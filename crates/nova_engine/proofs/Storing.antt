@@ -57,9 +57,10 @@ keeps_stands g e h s keeps = record { generation = g; marked = keeps.marked; pay
 
 -- a change of the journal's file leaves the marks
 pub marks_stay : (g x : ℕ) (old new : Files) → SameBut (4 * g) old new → IsMark old (Some x) → IsMark new (Some x)
-marks_stay g x old new same marked =
-    ( rw (same (4 * x + 1) (mark_apart g x)) marked.0
-    , λ y above. same (4 * y + 1) (mark_apart g y) ∙ marked.1 y above )
+marks_stay g x old new same marked = (
+  rw (same (4 * x + 1) (mark_apart g x)) marked.0,
+  λ y above. same (4 * y + 1) (mark_apart g y) ∙ marked.1 y above,
+)
 
 pub adds_nothing : (a b : List Event) → replies b ≡ replies a → Adds a b []
 adds_nothing a b same = same ∙ sym (append-nil (replies a))
@@ -74,7 +75,7 @@ since_now (e ∷ h) t image said left = inl left
 -- an append that failed on the disk: the journal holds the record, or it doesn't
 pub append_failed : (g e : ℕ) (old new : List Event) (payload : List ℕ) (s : State) (es : List Entry) → Keeps g e old s → load_of payload ≡ Some es → Valid new
     → ((payloads : List (List ℕ)) → LogTo e payloads (current old (4 * g)) → Only (current old (4 * g)) (Outcome old (4 * g))
-      → Meanwhile (OneChanges (4 * g) (BeforeOrAfter payloads payload) (Outcome old) (replies old)) old new)
+    → Meanwhile (OneChanges (4 * g) (BeforeOrAfter payloads payload) (Outcome old) (replies old)) old new)
     → SameBut (4 * g) (current old) (current new) → Stands (current new) s ⊎ Stands (current new) (after s (Load 0 es))
 append_failed g e old new payload s es keeps is valid moments same =
     let meanwhile = moments keeps.payloads keeps.holds.log keeps.settled in
@@ -100,14 +101,16 @@ append_done g e g' e' old new payload s es keeps is same_number added same settl
 -- why a record wasn't written, and what the journal holds then
 pub append_stopped : (fault : LogFault) (g e : ℕ) (old new : List Event) (payload : List ℕ) (s : State) (es : List Entry) (before now total : ℕ) → AppendCause before now e total fault → Keeps g e old s → load_of payload ≡ Some es → Valid new
     → ((payloads : List (List ℕ)) → LogTo e payloads (current old (4 * g)) → Only (current old (4 * g)) (Outcome old (4 * g))
-      → Meanwhile (OneChanges (4 * g) (BeforeOrAfter payloads payload) (Outcome old) (replies old)) old new)
+    → Meanwhile (OneChanges (4 * g) (BeforeOrAfter payloads payload) (Outcome old) (replies old)) old new)
     → SameBut (4 * g) (current old) (current new) → replies new ≡ replies old → (2 ^ 62 < total → new ≡ old) → total ≡ e + length (frame payload) → AppendStops (append_stop fault) payload s (after s (Load 0 es)) old new
 append_stopped fault.Disk g e old new payload s es before now total cause keeps is valid moments same said full size = (adds_nothing old new said, append_failed g e old new payload s es keeps is valid moments same)
 append_stopped (fault.Full at) g e old new payload s es before now total cause keeps is valid moments same said full size =
     let still : new ≡ old = full cause.0 in
-    let past : 2 ^ 62 < e + length (frame payload) = rw size at cause.0 in
-    (adds_same old new still, rw still (keeps_stands g e old s keeps),
-      rw still (record { generation = g; marked = keeps.marked; payloads = keeps.payloads; end = e; log = keeps.holds.log; past = past }))
+    let past : 2 ^ 62 < e + length (frame payload) = rw size at cause.0 in (
+      adds_same old new still,
+      rw still (keeps_stands g e old s keeps),
+      rw still (record { generation = g; marked = keeps.marked; payloads = keeps.payloads; end = e; log = keeps.holds.log; past = past }),
+    )
 append_stopped fault.NoStore g e old new payload s es before now total cause keeps is valid moments same said full size = absurd cause
 append_stopped (fault.Damaged file at) g e old new payload s es before now total cause keeps is valid moments same said full size = absurd cause
 append_stopped fault.NoMemory g e old new payload s es before now total cause keeps is valid moments same said full size = absurd cause
@@ -174,11 +177,11 @@ loads_done h old new mid payload a b c line same appends gives honest s entries 
 pub load_breaks_reply : (h : Bool) (old : Store) (mid : Journal) (payload : List ℕ) (a b c : List Event) (line : List ℕ) → Appends h old.journal mid payload a b → GivesInPart h b c line → LoadBreaks Reply h old payload a c line
 load_breaks_reply h old mid payload a b c line appends broke honest s entries keeps read =
     let done = appends honest s entries keeps read in
-    let part = broke honest in
-    ( part.given
-    , part.front
-    , replies_grow b c part.given part.replied ∙ ap (λ t. t ++ part.given) (done.adds ∙ append-nil (replies a))
-    , stands_replied b c part.given (after s (Load 0 entries)) part.replied (keeps_stands mid.generation mid.length b (after s (Load 0 entries)) done.keeps)
+    let part = broke honest in (
+      part.given,
+      part.front,
+      replies_grow b c part.given part.replied ∙ ap (λ t. t ++ part.given) (done.adds ∙ append-nil (replies a)),
+      stands_replied b c part.given (after s (Load 0 entries)) part.replied (keeps_stands mid.generation mid.length b (after s (Load 0 entries)) done.keeps),
     )
 
 pub load_breaks_append : (stop : Stop) (h : Bool) (old : Store) (payload : List ℕ) (a b : List Event) (line : List ℕ) → AppendBreaks stop h old.journal payload a b → LoadBreaks stop h old payload a b line

@@ -11,13 +11,13 @@ ghost use Rattle.nova_engine.specs.Status.{code_of, stop_status, ended_status};
 ghost use Rattle.nova_engine.specs.Standing.{InHost, StandsFor};
 ghost use Rattle.nova_engine.specs.Stored.{Stands};
 
+use crate::kept::Store;
 use crate::lines::{finish, take_piece};
+use crate::opening::{Unopened, init, open};
 use crate::reader::LineReader;
+use crate::reply::damaged;
 use crate::session::Session;
 use crate::status::{Status, status_at_end, status_of};
-use crate::kept::Store;
-use crate::opening::{Unopened, init, open};
-use crate::reply::damaged;
 use nova_outside::{Failed, Host, Source};
 use std::alloc::Global;
 

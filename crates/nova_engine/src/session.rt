@@ -6,10 +6,10 @@ ghost use Rattle.nova_machine.specs.Commands.{single};
 ghost use Rattle.nova_engine.specs.Standing.{MovesLine, BreaksLine, ClosesLoad, BreaksLoad, InHost, line_count};
 ghost use Rattle.nova_engine.specs.Steps.{HasStopCause};
 
+use crate::kept::Store;
 use crate::load::{Pending, begun, with_line};
 use crate::reply::{bad_row, not_built, unfinished_load};
 use crate::stop::Stop;
-use crate::kept::Store;
 use crate::store::{load, show};
 use crate::words::{CommandLine, command_line, ends_load};
 use nova_outside::Host;

@@ -54,12 +54,7 @@ fn append_load<H: Host>(
 }
 
 /// Merges a load into the channel, keeps it in the journal, and then replies its line.
-pub fn load<H: Host>(
-    store: Store,
-    alloc: Global,
-    host: &mut H,
-    rows: &Rows,
-) -> Result<Store, Stop>
+pub fn load<H: Host>(store: Store, alloc: Global, host: &mut H, rows: &Rows) -> Result<Store, Stop>
     requires room { store.version < 2 ^ 63 + 2 ^ 62 }
     requires in_host { InHost H.is_honest store (H.history host.old) }
     ensures table { IfOk result (λ new. new.table ≡ merge_of store.table rows.now.delta) }

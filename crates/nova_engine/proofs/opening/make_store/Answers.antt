@@ -16,7 +16,7 @@ returns-clause-made g c honest =
     let framed = c.deref.ensures.value ∙ c.in_ok-framed.ensures ∙ ap frame c.workflow_text.ensures in
     let holds = c.in-Ok.ensures.made honest flow_text framed in
     rw c.stop_of-in-Err-mark.ensures (mark_stopped c.in-Err-mark.fault (H c.args.host.now) (H c.create.new.host) (H c.mark.new.host) _ _ _ c.in-Err-mark.ensures.cause holds (c.requires.unmarked honest)
-      (c.in-Ok.ensures.others honest) (rw c.in-Ok.ensures.length.1 at (c.in-Err-mark.ensures.others honest)) (c.in-Ok.ensures.replies honest) (c.in-Err-mark.ensures.replies honest))
+    (c.in-Ok.ensures.others honest) (rw c.in-Ok.ensures.length.1 at (c.in-Err-mark.ensures.others honest)) (c.in-Ok.ensures.replies honest) (c.in-Err-mark.ensures.replies honest))
 
 pub returns-in-Err-clause-stop : goal.returns-in-Err-clause-stop
 returns-in-Err-clause-stop g c =

@@ -25,5 +25,5 @@ loop-value-preserved g c =
       holds = rw (tail_text-more c.args.values.now c.loop-value.value-index c.value-item.result below c.value-item.is)
           (holds_both _ _ _ _ _ _ _ _ _ c.loop-value.invariant.holds (holds_both _ _ _ _ _ _ _ _ _ c.in_ok-push.ensures.holds c.in_ok-push_value.ensures.holds));
       disk = c.push_value.ensures.disk_faults ∙ c.push.ensures.disk_faults ∙ c.loop-value.invariant.disk;
-  later = omega arith;
+      later = omega arith;
     }

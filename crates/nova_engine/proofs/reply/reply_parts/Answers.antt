@@ -41,7 +41,7 @@ loop-part-preserved g c =
       holds = holds_both _ _ _ _ _ _ _ _ _ c.loop-part.invariant.holds c.in_ok-push.ensures.holds;
       rest = append_assoc given part (in_one (map (λ p. p.now) (drop (i + 1) parts))) ∙ ap (λ t. given ++ t) (sym next) ∙ c.loop-part.invariant.rest;
       disk = c.push.ensures.disk_faults ∙ c.loop-part.invariant.disk;
-  later = omega arith;
+      later = omega arith;
     }
 
 pub returns-clause-gives : goal.returns-clause-gives

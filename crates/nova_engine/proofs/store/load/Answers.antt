@@ -9,7 +9,7 @@ returns-in_err-loaded-clause-loads g c =
     let p = err_from_is_err_and c.from_residual-in_err-loaded.result c.from_residual-in_err-loaded.ensures.1 in
     let H = g.H.Host.history in
     rw (p.1, p.2) (load_breaks_reply _ c.args.store c.in_ok-journal.journal c.args.rows.now.payload.items (H c.args.host.now) (H c.append_load.new.host) (H c.loaded.new.host) (loaded_line (codes "raw") (c.args.store.version + 1))
-      (rw c.deref.ensures.value at c.in_ok-journal.ensures.appends) c.in_err-loaded.ensures.gives)
+    (rw c.deref.ensures.value at c.in_ok-journal.ensures.appends) c.in_err-loaded.ensures.gives)
 
 pub returns-clause-in_host : goal.returns-clause-in_host
 returns-clause-in_host g c honest =
@@ -20,4 +20,4 @@ pub returns-clause-loads : goal.returns-clause-loads
 returns-clause-loads g c =
     let H = g.H.Host.history in
     loads_done _ c.args.store _ c.in_ok-journal.journal c.args.rows.now.payload.items (H c.args.host.now) (H c.append_load.new.host) (H c.loaded.new.host) (loaded_line (codes "raw") (c.args.store.version + 1)) refl
-      (rw c.deref.ensures.value at c.in_ok-journal.ensures.appends) c.in_ok-loaded.ensures.gives
+    (rw c.deref.ensures.value at c.in_ok-journal.ensures.appends) c.in_ok-loaded.ensures.gives

@@ -36,7 +36,7 @@ loop-row-preserved g c =
       rest = append_assoc given (row_line c.in-Some.row.now) (flat_map row_line c.next.new.self)
           ∙ ap (λ rows. given ++ flat_map row_line rows) (sym next) ∙ c.loop-row.invariant.rest;
       disk = c.row_text.ensures.disk_faults ∙ c.loop-row.invariant.disk;
-  later = omega arith;
+      later = omega arith;
     }
 
 pub returns-clause-gives : goal.returns-clause-gives

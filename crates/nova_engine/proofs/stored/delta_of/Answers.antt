@@ -23,7 +23,7 @@ pub returns-in-Err : goal.returns-in-Err
 returns-in-Err c =
     let before = c.loop-line.invariant in
     payload_bad_if (λ delta. HasLoad c.args.payload.now delta) c.without_row.result c.args.payload.now c.loop-line.rest.now c.in-Some.line.now c.in-Some.more.now before.lines before.entries c.in-Err.fault before.all c.in-Some.ensures.is before.clean c.in-Some.ensures.clean before.read
-      (rw (c.schema.ensures, before.made) at c.in-Err.ensures.err) c.without_row.ensures
+    (rw (c.schema.ensures, before.made) at c.in-Err.ensures.err) c.without_row.ensures
 
 pub loop-line-preserved : goal.loop-line-preserved
 loop-line-preserved c =

@@ -1,5 +1,5 @@
 -- A call, by the files that it began with.
-use Rattle.std.proofs.Common.{◌≡◌, ◌≢◌, ◌⊎◌, inl, inr, ℕ, ◌+◌, ◌*◌, Bool, List, [], ◌++◌, Option, Some, None, IsTrue, refl, sym, ap, ◌∙◌, arith}
+use Rattle.std.proofs.Common.{◌≡◌, ◌≢◌, ℕ, ◌+◌, ◌*◌, Bool, List, [], ◌++◌, Option, Some, None, IsTrue, refl, ap, ◌∙◌, arith}
 use Rattle.nova_outside.specs.Disk.{Files}
 use Rattle.nova_outside.specs.History.{Event, current, replies}
 use Rattle.nova_journal.specs.Marks.{IsMark}
@@ -9,16 +9,18 @@ use Rattle.nova_engine.specs.declared.opening.Unopened.{Unopened}
 use Rattle.nova_engine.specs.declared.opening.Unopened.TheVariants as unopened
 use Rattle.nova_engine.specs.declared.status.Status.{Status}
 use Rattle.nova_engine.specs.declared.status.Status.TheVariants.{Done, Usage, ReadFault, DiskFault, ReplyFault, NoMemory, NoStore, StoreThere, Damaged, Full, InputTooLong}
-use Rattle.nova_engine.specs.Calls.{EndsUnopened, IsSessionEnd, RunTold}
+use Rattle.nova_engine.specs.Calls.{EndsUnopened, IsSessionEnd, ReadSame, RunTold}
 use Rattle.nova_engine.specs.Ends.{Told, RepliesTold}
 use Rattle.nova_engine.specs.Opening.{IsBad, IsInitEnd, Opens, UnopenedTold, DamageTold, damaged_line}
 use Rattle.nova_engine.specs.Standing.{StandsFor}
 use Rattle.nova_engine.specs.Status.{code_of}
 use Rattle.nova_engine.specs.Steps.{Adds}
-use Rattle.nova_engine.specs.Stored.{Stands}
+use Rattle.nova_engine.specs.Stored.{GrowsWithin, Stands}
+use Rattle.nova_engine.proofs.Lengths.{grows_both, grows_same}
 use Rattle.nova_engine.proofs.Ending.{unopened_told}
 use Rattle.nova_engine.proofs.OneStore.{marked_not, bad_once, stands_once, stands_not_bad}
-use Rattle.nova_engine.proofs.Storing.{adds_nothing}
+use Rattle.nova_engine.proofs.Storing.{adds_nothing, current_replied}
+use Rattle.nova_outside.proofs.ReplyLemmas.{replies_grow}
 
 -- replies behind calls that replied nothing
 from_mid : (a mid b : List Event) (bytes : List ℕ) → replies mid ≡ replies a → Adds mid b bytes → Adds a b bytes
@@ -27,56 +29,61 @@ from_mid a mid b bytes said adds = adds ∙ ap (λ t. t ++ bytes) said
 quiet : (a mid b : List Event) → replies mid ≡ replies a → b ≡ mid → Adds a b []
 quiet a mid b said same = adds_nothing a b (ap replies same ∙ said)
 
+read_on : (a mid b : List Event) → ReadSame a mid → b ≡ mid → ReadSame a b
+read_on a mid b same is n = ap (λ (h : List Event). current h n) is ∙ same n
+
 -- ---- no store was opened
 
 bad_marked : (files : Files) (file at : ℕ) → IsBad files file at → IsMark files None → ⊥
 bad_marked files file at bad none = marked_not files bad.generation bad.marked none
 
-damaged_told : (status : Status) (files : Files) (file at : ℕ) (a b : List Event) → IsBad files file at → DamageTold status file at a b → (f t : ℕ) → IsBad files f t → DamageTold status f t a b
-damaged_told status files file at a b bad told f t other = let same = bad_once files file at f t bad other in rw (← same.0, ← same.1) told
+damaged_told : (status : Status) (files : Files) (file at : ℕ) (a b : List Event) → IsBad files file at → DamageTold status file at a b → ReadSame a b → (f t : ℕ) → IsBad files f t → DamageTold status f t a b × ReadSame a b
+damaged_told status files file at a b bad told same f t other = let one = bad_once files file at f t bad other in (rw (← one.0, ← one.1) told, same)
 
-pub run_unopened : (h : Bool) (why : Unopened) (status : Status) (a mid b : List Event) → IsTrue h → UnopenedTold why (current a) → replies mid ≡ replies a → EndsUnopened h why status mid b → RunTold status a b
-run_unopened h unopened.Disk status a mid b honest told said ends = rw ends.0 (record {
+pub run_unopened : (h : Bool) (why : Unopened) (status : Status) (a mid b : List Event) → IsTrue h → UnopenedTold why (current a) → ReadSame a mid → replies mid ≡ replies a → EndsUnopened h why status mid b → RunTold status a b
+run_unopened h unopened.Disk status a mid b honest told same said ends = rw ends.0 (record {
   no_store = λ e. cc;
-  missing = λ none. quiet a mid b said ends.1;
+  missing = λ none. (quiet a mid b said ends.1, read_on a mid b same ends.1);
   damage = λ e. cc;
-  damaged = λ file at bad. quiet a mid b said ends.1;
+  damaged = λ file at bad. (quiet a mid b said ends.1, read_on a mid b same ends.1);
 })
-run_unopened h unopened.NoStore status a mid b honest told said ends = rw ends.0 (record {
+run_unopened h unopened.NoStore status a mid b honest told same said ends = rw ends.0 (record {
   no_store = λ e. told;
-  missing = λ none. quiet a mid b said ends.1;
+  missing = λ none. (quiet a mid b said ends.1, read_on a mid b same ends.1);
   damage = λ e. cc;
   damaged = λ file at bad. absurd (bad_marked (current a) file at bad told);
 })
-run_unopened h unopened.Memory status a mid b honest told said ends = rw ends.0 (record {
+run_unopened h unopened.Memory status a mid b honest told same said ends = rw ends.0 (record {
   no_store = λ e. cc;
   missing = λ none. absurd (marked_not (current a) told.0 told.1 none);
   damage = λ e. cc;
-  damaged = λ file at bad. quiet a mid b said ends.1;
+  damaged = λ file at bad. (quiet a mid b said ends.1, read_on a mid b same ends.1);
 })
-run_unopened h (unopened.Damaged file at) Damaged a mid b honest told said ends = record {
+run_unopened h (unopened.Damaged file at) Damaged a mid b honest told same said ends = record {
   no_store = λ e. cc;
   missing = λ none. absurd (bad_marked (current a) file at told none);
   damage = λ e. (file, at, told);
-  damaged = damaged_told Damaged (current a) file at a b told (from_mid a mid b (damaged_line file at) said (ends honest));
+  damaged = damaged_told Damaged (current a) file at a b told (from_mid a mid b (damaged_line file at) said (replies_grow mid b (damaged_line file at) (ends honest)))
+      (λ n. current_replied mid b (damaged_line file at) (ends honest) n ∙ same n);
 }
-run_unopened h (unopened.Damaged file at) ReplyFault a mid b honest told said ends =
+run_unopened h (unopened.Damaged file at) ReplyFault a mid b honest told same said ends =
     let part = ends honest in
     record {
       no_store = λ e. cc;
       missing = λ none. absurd (bad_marked (current a) file at told none);
       damage = λ e. cc;
-      damaged = damaged_told ReplyFault (current a) file at a b told (record { given = part.given; front = part.front; replied = from_mid a mid b part.given said part.replied });
+      damaged = damaged_told ReplyFault (current a) file at a b told (record { given = part.given; front = part.front; replied = from_mid a mid b part.given said (replies_grow mid b part.given part.replied) })
+          (λ n. current_replied mid b part.given part.replied n ∙ same n);
     }
-run_unopened h (unopened.Damaged file at) Done a mid b honest told said ends = absurd ends
-run_unopened h (unopened.Damaged file at) Usage a mid b honest told said ends = absurd ends
-run_unopened h (unopened.Damaged file at) ReadFault a mid b honest told said ends = absurd ends
-run_unopened h (unopened.Damaged file at) DiskFault a mid b honest told said ends = absurd ends
-run_unopened h (unopened.Damaged file at) NoMemory a mid b honest told said ends = absurd ends
-run_unopened h (unopened.Damaged file at) NoStore a mid b honest told said ends = absurd ends
-run_unopened h (unopened.Damaged file at) StoreThere a mid b honest told said ends = absurd ends
-run_unopened h (unopened.Damaged file at) Full a mid b honest told said ends = absurd ends
-run_unopened h (unopened.Damaged file at) InputTooLong a mid b honest told said ends = absurd ends
+run_unopened h (unopened.Damaged file at) Done a mid b honest told same said ends = absurd ends
+run_unopened h (unopened.Damaged file at) Usage a mid b honest told same said ends = absurd ends
+run_unopened h (unopened.Damaged file at) ReadFault a mid b honest told same said ends = absurd ends
+run_unopened h (unopened.Damaged file at) DiskFault a mid b honest told same said ends = absurd ends
+run_unopened h (unopened.Damaged file at) NoMemory a mid b honest told same said ends = absurd ends
+run_unopened h (unopened.Damaged file at) NoStore a mid b honest told same said ends = absurd ends
+run_unopened h (unopened.Damaged file at) StoreThere a mid b honest told same said ends = absurd ends
+run_unopened h (unopened.Damaged file at) Full a mid b honest told same said ends = absurd ends
+run_unopened h (unopened.Damaged file at) InputTooLong a mid b honest told same said ends = absurd ends
 
 stands_same : (f g : Files) (s : State) → ((n : ℕ) → g n ≡ f n) → Stands f s → Stands g s
 stands_same f g s same stands = record {
@@ -88,17 +95,17 @@ stands_same f g s same stands = record {
 }
 
 -- what a session's call that opened no store tells of the input: it was not read
-still : (h : Bool) (a mid b : List Event) (s : State) → ((n : ℕ) → current mid n ≡ current a n) → replies mid ≡ replies a → b ≡ mid → Stands (current a) s → Adds a b [] × Stands (current b) s
-still h a mid b s same said is stands = (quiet a mid b said is, rw is (stands_same (current a) (current mid) s same stands))
+still : (h : Bool) (a mid b : List Event) (s : State) → ((n : ℕ) → current mid n ≡ current a n) → replies mid ≡ replies a → b ≡ mid → Stands (current a) s → Adds a b [] × Stands (current b) s × GrowsWithin (current a) (current b)
+still h a mid b s same said is stands = (quiet a mid b said is, rw is (stands_same (current a) (current mid) s same stands), rw is (grows_same (current a) (current mid) same))
 
 pub told_unopened : (h : Bool) (why : Unopened) (status : Status) (a mid b : List Event) (input : List ℕ) (left : Option (List ℕ)) → left ≡ Some input → (IsTrue h → UnopenedTold why (current a))
     → (IsTrue h → (n : ℕ) → current mid n ≡ current a n) → (IsTrue h → replies mid ≡ replies a) → EndsUnopened h why status mid b → Told (code_of status) h (Stands (current a)) input left a b
 told_unopened h unopened.Disk status a mid b input left is told same said ends = rw ends.0 (unopened_told 3 h (Stands (current a)) input left a b is (λ e. omega (arith, e)) (λ e. omega (arith, e)) (λ e. omega (arith, e))
-    (λ honest s stands. let is = still h a mid b s (same honest) (said honest) ends.1 stands in (λ e. omega (arith, e), is.0, is.1)))
+    (λ honest s stands. let is = still h a mid b s (same honest) (said honest) ends.1 stands in (λ e. omega (arith, e), is.0, is.1, is.2)))
 told_unopened h unopened.NoStore status a mid b input left is told same said ends = rw ends.0 (unopened_told 6 h (Stands (current a)) input left a b is (λ e. omega (arith, e)) (λ e. omega (arith, e)) (λ e. omega (arith, e))
     (λ honest s stands. absurd (marked_not (current a) stands.generation stands.marked (told honest))))
 told_unopened h unopened.Memory status a mid b input left is told same said ends = rw ends.0 (unopened_told 5 h (Stands (current a)) input left a b is (λ e. omega (arith, e)) (λ e. omega (arith, e)) (λ e. omega (arith, e))
-    (λ honest s stands. let is = still h a mid b s (same honest) (said honest) ends.1 stands in (λ e. omega (arith, e), is.0, is.1)))
+    (λ honest s stands. let is = still h a mid b s (same honest) (said honest) ends.1 stands in (λ e. omega (arith, e), is.0, is.1, is.2)))
 told_unopened h (unopened.Damaged file at) Damaged a mid b input left is told same said ends = unopened_told 9 h (Stands (current a)) input left a b is (λ e. omega (arith, e)) (λ e. omega (arith, e)) (λ e. omega (arith, e))
     (λ honest s stands. absurd (stands_not_bad (current a) s file at stands (told honest)))
 told_unopened h (unopened.Damaged file at) ReplyFault a mid b input left is told same said ends = unopened_told 4 h (Stands (current a)) input left a b is (λ e. omega (arith, e)) (λ e. omega (arith, e)) (λ e. omega (arith, e))
@@ -128,8 +135,8 @@ run_opened h store status a mid b opens end =
       damaged = λ file at bad. absurd (stands_not_bad (current a) opens.state file at stood bad);
     }
 
-replies_from : (status : ℕ) (s : State) (input taken : List ℕ) (a mid b : List Event) → replies mid ≡ replies a → RepliesTold status s input taken mid b → RepliesTold status s input taken a b
-replies_from status s input taken a mid b said told = record {
+replies_from : (status : ℕ) (s : State) (input taken : List ℕ) (a mid b : List Event) → ((n : ℕ) → current mid n ≡ current a n) → replies mid ≡ replies a → RepliesTold status s input taken mid b → RepliesTold status s input taken a b
+replies_from status s input taken a mid b same said told = record {
   k = told.k;
   fits = told.fits;
   given = told.given;
@@ -137,14 +144,15 @@ replies_from status s input taken a mid b said told = record {
   within = told.within;
   whole = told.whole;
   held = told.held;
+  grows = grows_both (current a) (current mid) (current b) (grows_same (current a) (current mid) same) told.grows;
   full = told.full;
   cut = told.cut;
   done = told.done;
 }
 
-pub told_opened : (status : ℕ) (h : Bool) (store : Store) (a mid b : List Event) (input : List ℕ) (left : Option (List ℕ)) → (IsTrue h → Opens h store a mid) → (IsTrue h → replies mid ≡ replies a)
+pub told_opened : (status : ℕ) (h : Bool) (store : Store) (a mid b : List Event) (input : List ℕ) (left : Option (List ℕ)) → (IsTrue h → Opens h store a mid) → (IsTrue h → (n : ℕ) → current mid n ≡ current a n) → (IsTrue h → replies mid ≡ replies a)
     → Told status h (StandsFor h store mid) input left mid b → Told status h (Stands (current a)) input left a b
-told_opened status h store a mid b input left opens said told = record {
+told_opened status h store a mid b input left opens files said told = record {
   taken = told.taken;
   rest = told.rest;
   left_is = told.left_is;
@@ -157,7 +165,7 @@ told_opened status h store a mid b input left opens said told = record {
   replies = λ honest s stood.
       let is = opens honest in
       let same = stands_once (current a) is.state s is.stood stood in
-      replies_from status s input told.taken a mid b (said honest) (told.replies honest s (rw same at is.stands));
+      replies_from status s input told.taken a mid b (files honest) (said honest) (told.replies honest s (rw same at is.stands));
 }
 
 -- ---- statuses by their numbers

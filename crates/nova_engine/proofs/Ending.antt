@@ -20,14 +20,14 @@ use Rattle.nova_engine.specs.declared.stop.Stop.{Stop}
 use Rattle.nova_engine.specs.declared.stop.Stop.TheVariants.{Disk, Reply, Full, Memory}
 use Rattle.nova_engine.specs.declared.kept.Store.{Store}
 use Rattle.nova_engine.specs.Positions.{Loading, Position, commands_in, commands_at, whole_commands_at}
-use Rattle.nova_engine.specs.Steps.{Adds, Adding, IsWithin, Stops, StopsIn}
-use Rattle.nova_engine.specs.Stored.{Stands}
+use Rattle.nova_engine.specs.Steps.{Adds, IsWithin, Stops, StopsIn}
+use Rattle.nova_engine.specs.Stored.{GrowsWithin, Stands}
 use Rattle.nova_engine.proofs.Storing.{keeps_stands}
 use Rattle.nova_engine.specs.Standing.{StandsFor}
 use Rattle.nova_engine.specs.Moves.{IsAt, BreaksOn, Finishes, StopsFinish}
 use Rattle.nova_engine.specs.Status.{code_of, stop_status, ended_status}
 use Rattle.nova_engine.specs.Ends.{Told, RepliesTold, session_steps, whole_steps}
-use Rattle.nova_engine.proofs.Moving.{text_front, breaks_both, stops_commands-before, stops_commands-behind, adds_commands, after_commands, nothing_added}
+use Rattle.nova_engine.proofs.Moving.{text_front, breaks_both, stops_commands-before, stops_commands-behind, adds_commands, after_commands}
 use Rattle.nova_engine.proofs.Reached.{Reached, Reaches, opening}
 
 -- what a source that tells its bytes has left
@@ -87,7 +87,8 @@ between h status s reader a b input bytes rest reaches is other ten honest =
       k = length xs;
       fits = rw all (omega (arith, length-append xs ys));
       given = text s xs;
-      replied = reaches.advances.adds honest;
+      replied = (reaches.advances.adds honest).replied;
+      grows = (reaches.advances.adds honest).grows;
       within = rw all (within_taken s xs ys);
       whole = λ _. rw (all, take-append_seam xs ys) refl;
       held = inl (rw (all, take-append_seam xs ys) (rw reaches.advances.state at (keeps_stands _ _ b reaches.to.state (reaches.at.stands.keeps honest))));
@@ -167,6 +168,7 @@ stopped_replies stop s input taken a b stops = record {
   within = stops.within;
   whole = λ other. stops.whole (stop_is stop other);
   held = elim stops.held [ inl same ↦ inl same | inr next ↦ inr (ap (λ x. code_of (stop_status x)) next.0, next.1) ];
+  grows = stops.grows;
   full = λ e. stops.full (is_full stop e);
   cut = λ e. elim e [ inl two ↦ absurd (not_read stop two) | inr eleven ↦ absurd (not_long stop eleven) ];
   done = λ e. absurd (not_done stop e);
@@ -229,11 +231,13 @@ told_finish (Ok u) h store reader a b c left now taken input reached end finishe
           let all : commands_of input ≡ done ++ left_over = ap commands_of (known.2 ∙ ap (λ t. reached.bytes ++ t) none) ∙ reaches.advances.cut [] in
           let state = reaches.advances.state in
           let rest = rw state at (finishes reaches.to reaches.at) in
+          let added = adds_commands h s done left_over a b c reaches.advances.adds rest.adds honest in
           record {
             k = length (session_steps s input);
             fits = omega arith;
             given = text s (session_steps s input);
-            replied = rw all (adds_commands h s done left_over a b c reaches.advances.adds rest.adds honest);
+            replied = rw all added.replied;
+            grows = added.grows;
             within = record {
               front = rw (take-length (session_steps s input)) (begins_all (text s (session_steps s input)));
               behind = λ some. text_front s (session_steps s input) (length (session_steps s input) - 1);
@@ -273,7 +277,7 @@ told_finish (Err stop) h store reader a b c left now taken input reached end sto
 
 -- nothing was taken
 pub unopened_told : (status : ℕ) (h : Bool) (MayOpen : State → Type 0) (input : List ℕ) (left : Option (List ℕ)) (a b : List Event) → left ≡ Some input → status ≢ 0 → status ≢ 10 → status ≢ 11
-    → (IsTrue h → (s : State) → MayOpen s → (status ≢ 2) × Adds a b [] × Stands (current b) s) → Told status h MayOpen input left a b
+    → (IsTrue h → (s : State) → MayOpen s → (status ≢ 2) × Adds a b [] × Stands (current b) s × GrowsWithin (current a) (current b)) → Told status h MayOpen input left a b
 unopened_told status h MayOpen input left a b is zero ten long told = record {
   taken = [];
   rest = input;
@@ -294,6 +298,7 @@ unopened_told status h MayOpen input left a b is zero ten long told = record {
         within = record { front = begins_nothing (text s []); behind = λ some. absurd (omega arith) };
         whole = λ _. refl;
         held = inl is.2;
+        grows = is.3;
         full = λ e. absurd (ten e);
         cut = λ e. absurd (elim e [ inl two ↦ is.0 two | inr eleven ↦ long eleven ]);
         done = λ e. absurd (zero e);

@@ -1,6 +1,5 @@
 -- A store's loads, merged in turn.
-use Rattle.std.proofs.Common.{◌≡◌, ◌≢◌, ℕ, suc, ◌+◌, ◌<◌, Bool, true, false, not, List, [], ◌∷◌, ◌++◌, length, Option, Some, None, if◌then◌else◌, is_some, refl, sym, ap, ◌∙◌, append_assoc, arith, length-append}
-use Rattle.std.proofs.lemmas.List.{append-nil}
+use Rattle.std.proofs.Common.{◌≡◌, ℕ, suc, ◌+◌, Bool, true, false, not, List, [], ◌∷◌, ◌++◌, length, Option, Some, None, if◌then◌else◌, is_some, refl, sym, ap, ◌∙◌, arith, length-append}
 use Rattle.std.specs.FinMap as fin
 use Rattle.std.specs.Str.{bytes_eq}
 use Rattle.std.specs.Cmp.Lexicographic.{bytes_decides}
@@ -10,7 +9,7 @@ use Rattle.nova_delta.specs.Merge.{DeltaValue, TableValue, merge_of}
 use Rattle.nova_journal.specs.Log.{IsPlaced, payloads_of}
 use Rattle.nova_journal.specs.declared.payload.Payload.{Payload}
 use Rattle.nova_machine.specs.Flow.{Flow, channel_in}
-use Rattle.nova_machine.specs.State.{State, newest, newest_table, start}
+use Rattle.nova_machine.specs.State.{State, newest_table, start}
 use Rattle.nova_machine.specs.Steps.{Step, Load, after, after_all, load_delta}
 use Rattle.nova_machine.proofs.Loads.{load_merges, channels_stay}
 use Rattle.nova_machine.proofs.Turns.{after_all-append}

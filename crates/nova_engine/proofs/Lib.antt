@@ -2,6 +2,7 @@ mod Giving
 mod Fields
 mod Parts
 mod Empty
+mod Lengths
 mod Storing
 mod LoadLines
 mod Payloads

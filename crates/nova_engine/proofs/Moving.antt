@@ -18,13 +18,14 @@ use Rattle.nova_engine.specs.declared.session.Session.{Session}
 use Rattle.nova_engine.specs.declared.stop.Stop.{Stop}
 use Rattle.nova_engine.specs.declared.kept.Store.{Store}
 use Rattle.nova_engine.specs.declared.load.Pending.{Pending}
+use Rattle.nova_engine.proofs.Lengths.{grows_both, grows_still}
 use Rattle.nova_engine.proofs.Storing.{keeps_stands}
 use Rattle.nova_engine.specs.Positions.{Loading, Position, load_after, ended_by, commands_in, commands_at, whole_commands_at}
 use Rattle.nova_engine.specs.declared.stop.Stop.TheVariants.{Disk, Memory}
-use Rattle.nova_engine.specs.Steps.{Adds, Adding, IsWithin, NoRoom, StopsIn}
+use Rattle.nova_engine.specs.Steps.{Added, Adds, Adding, IsWithin, NoRoom, StopsIn}
 use Rattle.nova_engine.specs.Stored.{Stands}
 use Rattle.nova_engine.specs.Standing.{StandsForPending, ClosesLoad, MovesLine, BreaksLine}
-use Rattle.nova_engine.specs.Moves.{IsAt, Advances, Breaks, MovesOn, BreaksOn, Finished, Finishes, StopsFinish, TakesLast, Ends, StopsEnd}
+use Rattle.nova_engine.specs.Moves.{Advances, Breaks, MovesOn, BreaksOn, Finished, Finishes, StopsFinish, TakesLast, Ends, StopsEnd}
 use Rattle.nova_engine.proofs.CommandLines.{commands_at-line, whole_commands_at-line, commands_at-end}
 use Rattle.nova_engine.proofs.Taking.{stops_at_once}
 
@@ -65,8 +66,11 @@ within_behind s xs ys k given is = record {
 pub adds_both : (a b c : List Event) (xs ys : List ℕ) → Adds a b xs → Adds b c ys → Adds a c (xs ++ ys)
 adds_both a b c xs ys one two = two ∙ ap (λ t. t ++ ys) one ∙ append_assoc (replies a) xs ys
 
+added_both : (a b c : List Event) (xs ys : List ℕ) → Added a b xs → Added b c ys → Added a c (xs ++ ys)
+added_both a b c xs ys one two = record { replied = adds_both a b c xs ys one.replied two.replied; grows = grows_both (current a) (current b) (current c) one.grows two.grows }
+
 pub nothing_added : (h : Bool) (a : List Event) → Adding h a a []
-nothing_added h a honest = sym (append-nil (replies a))
+nothing_added h a honest = record { replied = sym (append-nil (replies a)); grows = grows_still a a refl }
 
 after_past : (s : State) (xs ys : List Step) (k : ℕ) → after_all s (take (length xs + k) (xs ++ ys)) ≡ after_all (after_all s xs) (take k ys)
 after_past s xs ys k = ap (after_all s) (take-append-add xs ys k) ∙ after_all-append s xs (take k ys)
@@ -113,7 +117,8 @@ stops_behind stop h s xs ys a b c adds stops honest =
       k = length xs + two.k;
       fits = omega (arith, two.fits, length-append xs ys);
       given = text s xs ++ two.given;
-      replied = adds_both a b c (text s xs) two.given (adds honest) two.replied;
+      replied = adds_both a b c (text s xs) two.given (adds honest).replied two.replied;
+      grows = grows_both (current a) (current b) (current c) (adds honest).grows two.grows;
       within = within_behind s xs ys two.k two.given two.within;
       whole = λ other. ap (λ t. text s xs ++ t) (two.whole other) ∙ sym (text_past s xs ys two.k);
       held = held_behind stop (current c) s xs ys two.k two.held;
@@ -156,6 +161,7 @@ stops_before stop h s xs ys a b stops honest =
       within = record { front = rw front one.within.front; behind = λ some. rw last (one.within.behind some) };
       whole = λ other. one.whole other ∙ sym front;
       held = held_before stop (current b) s xs ys one.k one.fits one.held;
+      grows = one.grows;
       full = λ e. no_room-before (current b) xs ys one.k (one.full e);
     }
 
@@ -174,7 +180,7 @@ pub adds_commands : (h : Bool) (s : State) (cs ds : List Command) (a b c : List 
     → Adding h b c (text (after_all s (steps s cs)) (steps (after_all s (steps s cs)) ds)) → Adding h a c (text s (steps s (cs ++ ds)))
 adds_commands h s cs ds a b c one two honest =
     let rest = steps (after_all s (steps s cs)) ds in
-    rw (steps-append s cs ds, text-append s (steps s cs) rest) (adds_both a b c (text s (steps s cs)) (text (after_all s (steps s cs)) rest) (one honest) (two honest))
+    rw (steps-append s cs ds, text-append s (steps s cs) rest) (added_both a b c (text s (steps s cs)) (text (after_all s (steps s cs)) rest) (one honest) (two honest))
 
 pub after_commands : (s : State) (cs ds : List Command) → after_all s (steps s (cs ++ ds)) ≡ after_all (after_all s (steps s cs)) (steps (after_all s (steps s cs)) ds)
 after_commands s cs ds = ap (after_all s) (steps-append s cs ds) ∙ after_all-append s (steps s cs) (steps (after_all s (steps s cs)) ds)

@@ -1,15 +1,15 @@
 -- A store that is made, and one that is opened.
-use Rattle.std.proofs.Common.{◌≡◌, ◌≢◌, ◌⊎◌, inl, inr, ⊎_elim, ℕ, zero, suc, ◌+◌, ◌*◌, ◌<◌, ◌≤◌, ◌^◌, Bool, true, false, List, [], ◌∷◌, ◌++◌, length, Option, Some, None, IsSome, Result, Ok, Err, IsTrue, if◌then◌else◌, is_some, refl, sym, ap, ◌∙◌, subst, arith, length-append}
+use Rattle.std.proofs.Common.{◌≡◌, ◌≢◌, ◌⊎◌, inl, inr, ⊎_elim, ℕ, zero, suc, ◌+◌, ◌*◌, ◌<◌, ◌^◌, Bool, true, List, [], ◌∷◌, ◌++◌, length, Option, Some, None, IsSome, if◌then◌else◌, refl, sym, ap, ◌∙◌, arith, length-append}
 use Rattle.std.proofs.lemmas.Bool.{cases_lt}
 use Rattle.std.proofs.lemmas.List.{append-nil}
 use Rattle.std.specs.Str.{bytes_eq}
 use Rattle.std.specs.Cmp.Lexicographic.{bytes_decides}
 use Rattle.nova_outside.specs.Disk.{Files, SameBut}
-use Rattle.nova_outside.specs.History.{Event, Begins, current, replies}
-use Rattle.nova_outside.specs.Replies.{HasReplied, HasRepliedInPart, Gives, GivesInPart}
+use Rattle.nova_outside.specs.History.{Event, current, replies}
+use Rattle.nova_outside.specs.Replies.{HasReplied, HasRepliedInPart}
 use Rattle.nova_outside.proofs.ReplyLemmas.{replies_grow}
 use Rattle.nova_journal.specs.Fault.{AppendCause, MarkCause, IsDamaged}
-use Rattle.nova_journal.specs.Log.{IsLog, LogTo, Log, IsReadTo, ReadTo, IsPlaced, length_bytes, entry, frame, records, payloads_of}
+use Rattle.nova_journal.specs.Log.{IsLog, IsReadTo, ReadTo, IsPlaced, length_bytes, entry, frame, records, payloads_of}
 use Rattle.nova_journal.specs.Marks.{IsMark, IsUnmarked, Holds}
 use Rattle.nova_journal.specs.declared.fault.LogFault.{LogFault}
 use Rattle.nova_journal.specs.declared.fault.LogFault.TheVariants as fault
@@ -26,10 +26,10 @@ use Rattle.nova_engine.specs.Flow.{raw_flow}
 use Rattle.nova_engine.specs.Folding.{NotStored}
 use Rattle.nova_engine.specs.Standing.{append_stop}
 use Rattle.nova_engine.specs.Steps.{Adds}
-use Rattle.nova_engine.specs.Stored.{AreStored, Stands, flow_text, load_of, step_before, steps_stored, bad_load, bad_payload}
-use Rattle.nova_engine.specs.Opening.{IsBad, HasBadPayload, HasMark, IsNew, MakeStops, UnopenedTold, unread_in, AddsInPart}
+use Rattle.nova_engine.specs.Stored.{AreStored, Stands, flow_text, load_of, steps_stored, bad_load, bad_payload}
+use Rattle.nova_engine.specs.Opening.{IsBad, HasBadPayload, MakeStops, UnopenedTold, unread_in, AddsInPart}
 use Rattle.nova_engine.proofs.Folding.{read_before}
-use Rattle.nova_engine.proofs.Storing.{adds_nothing, stands_replied}
+use Rattle.nova_engine.proofs.Storing.{adds_nothing}
 
 -- ---- a store without loads
 

@@ -5,11 +5,11 @@ use Rattle.std.specs.FinMap as fin
 use Rattle.nova_delta.specs.Merge.{TableValue, merge_of}
 use Rattle.nova_outside.specs.History.{Event}
 use Rattle.nova_outside.specs.Replies.{Gives, GivesInPart}
-use Rattle.nova_machine.specs.Lines.{words_of, whole_lines_of}
+use Rattle.nova_machine.specs.Lines.{words_of}
 use Rattle.nova_machine.specs.Flow.{Flow, channel_in}
 use Rattle.nova_machine.specs.State.{State, newest, newest_table}
-use Rattle.nova_machine.specs.Steps.{Step, Load, Show, Refused, after}
-use Rattle.nova_machine.specs.Commands.{WithRows, begins_load, single, is_dot, not_built, steps, read_rows}
+use Rattle.nova_machine.specs.Steps.{Step, Show, Refused}
+use Rattle.nova_machine.specs.Commands.{WithRows, begins_load, single, is_dot, not_built, steps}
 use Rattle.nova_machine.specs.Replies.{text, reply_to, line_end, loaded_line, shown_line, row_lines}
 use Rattle.nova_engine.specs.declared.load.Pending.{Pending}
 use Rattle.nova_engine.specs.declared.load.Pending.TheVariants as pending
@@ -17,16 +17,15 @@ use Rattle.nova_engine.specs.declared.rows.Rows.{Rows}
 use Rattle.nova_engine.specs.declared.stop.Stop.{Stop}
 use Rattle.nova_engine.specs.declared.kept.Store.{Store}
 use Rattle.nova_engine.specs.declared.words.CommandLine.TheVariants as line
-use Rattle.nova_engine.specs.Flow.{raw_flow, raw_schema}
+use Rattle.nova_engine.specs.Flow.{raw_flow}
 use Rattle.nova_engine.specs.declared.stop.Stop.TheVariants.{Reply}
 use Rattle.nova_engine.specs.Positions.{Loading, load_after, ended_by}
 use Rattle.nova_engine.specs.Steps.{StopsIn}
 use Rattle.nova_engine.proofs.Payloads.{payload_reads}
-use Rattle.nova_value.specs.declared.schema.Entry.{Entry}
-use Rattle.nova_engine.specs.Standing.{StandsFor, StandsForLoad, StandsForPending, BeginsLoad, TakesLine, Takes, LoadsFrom, LoadBreaks, ClosesLoad, BreaksLoad, MovesLine, BreaksLine, TakesSessionLine}
+use Rattle.nova_engine.specs.Standing.{StandsFor, StandsForLoad, BeginsLoad, TakesLine, Takes, LoadsFrom, LoadBreaks, ClosesLoad, BreaksLoad, MovesLine, BreaksLine}
 use Rattle.nova_engine.specs.Words.{line_of}
 use Rattle.nova_engine.proofs.CommandWords.{IsLineOf, line_is}
-use Rattle.nova_engine.proofs.Taking.{steps-load, steps-other_load, takes_reply, takes_nothing, stops_reply, stops_at_once, takes_load, stops_load}
+use Rattle.nova_engine.proofs.Taking.{steps-load, steps-other_load, takes_reply, takes_nothing, stops_reply, takes_load, stops_load}
 
 -- the load's command makes this one step
 abbrev MakesStep : Pending → Bool → (State → Step) → Type 0

@@ -1,16 +1,16 @@
 -- What appending a load's record leaves.
-use Rattle.std.proofs.Common.{◌≡◌, ◌≢◌, ◌⊎◌, ℕ, ◌+◌, ◌*◌, ◌<◌, ◌^◌, Bool, true, false, List, [], ◌∷◌, ◌++◌, length, Option, Some, None, Result, Ok, Err, IsTrue, inl, inr, refl, sym, ap, ◌∙◌, subst, arith}
+use Rattle.std.proofs.Common.{◌≡◌, ◌⊎◌, ℕ, ◌+◌, ◌*◌, ◌<◌, ◌≤◌, ◌^◌, Bool, List, [], ◌∷◌, ◌++◌, length, Option, Some, None, inl, inr, refl, sym, ap, ◌∙◌, subst}
 use Rattle.std.proofs.lemmas.List.{append-nil}
 use Rattle.nova_value.specs.declared.schema.Entry.{Entry}
 use Rattle.nova_outside.specs.Disk.{Files, SameBut, Only, OneChanges}
 use Rattle.nova_outside.specs.History.{Event, Replied, Valid, current, replies, Outcome, Since, LeftNow, Meanwhile}
 use Rattle.nova_outside.proofs.Outcomes.{stays}
 use Rattle.nova_outside.specs.Replies.{HasReplied, Gives, GivesInPart, after_replies}
-use Rattle.nova_journal.specs.Log.{IsLog, LogTo, BeforeOrAfter, frame}
+use Rattle.nova_journal.specs.Log.{LogTo, BeforeOrAfter, frame}
 use Rattle.nova_journal.specs.Marks.{IsIn, IsMark, Holds}
 use Rattle.nova_journal.proofs.Generations.{mark_apart}
 use Rattle.nova_machine.specs.State.{State, start}
-use Rattle.nova_machine.specs.Steps.{Step, Load, after, after_all}
+use Rattle.nova_machine.specs.Steps.{Step, Load, after}
 use Rattle.nova_machine.proofs.Turns.{after_all-append}
 use Rattle.nova_engine.specs.Flow.{raw_flow}
 use Rattle.nova_engine.specs.Steps.{Adds}
@@ -23,7 +23,8 @@ use Rattle.nova_outside.proofs.ReplyLemmas.{replies_grow}
 use Rattle.nova_journal.specs.declared.fault.LogFault.{LogFault}
 use Rattle.nova_journal.specs.declared.fault.LogFault.TheVariants as fault
 use Rattle.nova_journal.specs.Fault.{AppendCause}
-use Rattle.nova_engine.specs.Stored.{AreStored, Keeps, Stands, flow_text, load_of, step_before, steps_stored}
+use Rattle.nova_engine.proofs.Lengths.{grows_after, grows_before, grows_both, grows_same, grows_still, long_kept}
+use Rattle.nova_engine.specs.Stored.{AreStored, GrowsWithin, Keeps, Stands, load_of, step_before, steps_stored}
 
 -- ---- loads in turn
 
@@ -76,15 +77,22 @@ since_now (e ∷ h) t image said left = inl left
 pub append_failed : (g e : ℕ) (old new : List Event) (payload : List ℕ) (s : State) (es : List Entry) → Keeps g e old s → load_of payload ≡ Some es → Valid new
     → ((payloads : List (List ℕ)) → LogTo e payloads (current old (4 * g)) → Only (current old (4 * g)) (Outcome old (4 * g))
     → Meanwhile (OneChanges (4 * g) (BeforeOrAfter payloads payload) (Outcome old) (replies old)) old new)
-    → SameBut (4 * g) (current old) (current new) → Stands (current new) s ⊎ Stands (current new) (after s (Load 0 es))
-append_failed g e old new payload s es keeps is valid moments same =
+    → SameBut (4 * g) (current old) (current new) → (total : ℕ) → total ≤ 2 ^ 62 → total ≡ e + length (frame payload)
+    → (Stands (current new) s ⊎ Stands (current new) (after s (Load 0 es))) × GrowsWithin (current old) (current new)
+append_failed g e old new payload s es keeps is valid moments same total fits size =
     let meanwhile = moments keeps.payloads keeps.holds.log keeps.settled in
     let image : LeftNow new (current new) (replies new) = (λ n. stays new n valid, refl) in
     let now = meanwhile.each (current new) (replies new) (since_now new (length old) (current new) (replies new) image) in
     let marked = marks_stay g g (current old) (current new) same keeps.marked in
     elim now.here [
-      | inl log ↦ inl (record { generation = g; marked = marked; payloads = keeps.payloads; log = log; stored = keeps.stored })
-      | inr log ↦ inr (record { generation = g; marked = marked; payloads = keeps.payloads ++ payload ∷ []; log = log; stored = stored_more keeps.payloads payload s es keeps.stored is })
+      | inl log ↦ (
+        inl (record { generation = g; marked = marked; payloads = keeps.payloads; log = log; stored = keeps.stored }),
+        grows_before (current old) (current new) g e total keeps.payloads payload marked keeps.holds.log.ends size fits log,
+      )
+      | inr log ↦ (
+        inr (record { generation = g; marked = marked; payloads = keeps.payloads ++ payload ∷ []; log = log; stored = stored_more keeps.payloads payload s es keeps.stored is }),
+        grows_after (current old) (current new) g e total keeps.payloads payload marked keeps.holds.log.ends size fits log,
+      )
     ]
 
 pub append_done : (g e g' e' : ℕ) (old new : List Event) (payload : List ℕ) (s : State) (es : List Entry) → Keeps g e old s → load_of payload ≡ Some es → g' ≡ g
@@ -103,13 +111,16 @@ pub append_stopped : (fault : LogFault) (g e : ℕ) (old new : List Event) (payl
     → ((payloads : List (List ℕ)) → LogTo e payloads (current old (4 * g)) → Only (current old (4 * g)) (Outcome old (4 * g))
     → Meanwhile (OneChanges (4 * g) (BeforeOrAfter payloads payload) (Outcome old) (replies old)) old new)
     → SameBut (4 * g) (current old) (current new) → replies new ≡ replies old → (2 ^ 62 < total → new ≡ old) → total ≡ e + length (frame payload) → AppendStops (append_stop fault) payload s (after s (Load 0 es)) old new
-append_stopped fault.Disk g e old new payload s es before now total cause keeps is valid moments same said full size = (adds_nothing old new said, append_failed g e old new payload s es keeps is valid moments same)
+append_stopped fault.Disk g e old new payload s es before now total cause keeps is valid moments same said full size =
+    let failed = append_failed g e old new payload s es keeps is valid moments same total cause.1 size in
+    (adds_nothing old new said, failed.0, failed.1)
 append_stopped (fault.Full at) g e old new payload s es before now total cause keeps is valid moments same said full size =
     let still : new ≡ old = full cause.0 in
     let past : 2 ^ 62 < e + length (frame payload) = rw size at cause.0 in (
       adds_same old new still,
       rw still (keeps_stands g e old s keeps),
-      rw still (record { generation = g; marked = keeps.marked; payloads = keeps.payloads; end = e; log = keeps.holds.log; past = past }),
+      rw still (record { end = e; long = long_kept g e old s keeps; past = past }),
+      grows_still old new still,
     )
 append_stopped fault.NoStore g e old new payload s es before now total cause keeps is valid moments same said full size = absurd cause
 append_stopped (fault.Damaged file at) g e old new payload s es before now total cause keeps is valid moments same said full size = absurd cause
@@ -165,12 +176,16 @@ stands_replied a b bytes s replied stands = record {
 
 -- ---- a load that is kept, and then replied
 
+pub grows_replied : (a b : List Event) (bytes : List ℕ) → HasReplied a b bytes → GrowsWithin (current a) (current b)
+grows_replied a b bytes replied = grows_same (current a) (current b) (current_replied a b bytes replied)
+
 pub loads_done : (h : Bool) (old new : Store) (mid : Journal) (payload : List ℕ) (a b c : List Event) (line : List ℕ) → new.journal ≡ mid → Appends h old.journal mid payload a b → Gives h b c line → LoadsFrom h old new payload a c line
 loads_done h old new mid payload a b c line same appends gives honest s entries keeps read =
     let done = appends honest s entries keeps read in
     let replied = gives honest in
     record {
       adds = replies_grow b c line replied ∙ ap (λ t. t ++ line) (done.adds ∙ append-nil (replies a));
+      grows = grows_both (current a) (current b) (current c) done.grows (grows_replied b c line replied);
       keeps = rw same (keeps_replied mid.generation mid.length b c line (after s (Load 0 entries)) replied done.keeps);
     }
 
@@ -182,6 +197,7 @@ load_breaks_reply h old mid payload a b c line appends broke honest s entries ke
       part.front,
       replies_grow b c part.given part.replied ∙ ap (λ t. t ++ part.given) (done.adds ∙ append-nil (replies a)),
       stands_replied b c part.given (after s (Load 0 entries)) part.replied (keeps_stands mid.generation mid.length b (after s (Load 0 entries)) done.keeps),
+      grows_both (current a) (current b) (current c) done.grows (grows_replied b c part.given part.replied),
     )
 
 pub load_breaks_append : (stop : Stop) (h : Bool) (old : Store) (payload : List ℕ) (a b : List Event) (line : List ℕ) → AppendBreaks stop h old.journal payload a b → LoadBreaks stop h old payload a b line
@@ -192,7 +208,7 @@ load_breaks_append Memory h old payload a b line breaks honest s entries keeps r
 
 -- nothing was called
 pub load_breaks_memory : (h : Bool) (old : Store) (payload : List ℕ) (a : List Event) (line : List ℕ) → LoadBreaks Memory h old payload a a line
-load_breaks_memory h old payload a line honest s entries keeps read = (adds_nothing a a refl, keeps_stands _ _ a s keeps)
+load_breaks_memory h old payload a line honest s entries keeps read = (adds_nothing a a refl, keeps_stands _ _ a s keeps, grows_still a a refl)
 
 pub append_breaks_memory : (h : Bool) (old : Journal) (payload : List ℕ) (a : List Event) → AppendBreaks Memory h old payload a a
-append_breaks_memory h old payload a honest s entries keeps read = (adds_nothing a a refl, keeps_stands _ _ a s keeps)
+append_breaks_memory h old payload a honest s entries keeps read = (adds_nothing a a refl, keeps_stands _ _ a s keeps, grows_still a a refl)

@@ -1,10 +1,10 @@
 -- Commands taken, and commands that a call stopped in.
-use Rattle.std.proofs.Common.{◌≡◌, ℕ, ◌+◌, Bool, true, false, List, [], ◌∷◌, ◌++◌, Option, Some, None, Result, codes, is_some, if◌then◌else◌, refl, sym, ap, ◌∙◌, arith, inl, inr, ◌⊎◌}
+use Rattle.std.proofs.Common.{◌≡◌, ℕ, ◌+◌, Bool, true, false, List, [], ◌∷◌, ◌++◌, Option, Some, None, Result, codes, is_some, if◌then◌else◌, refl, sym, ap, ◌∙◌, arith, inl, inr}
 use Rattle.std.proofs.lemmas.List.{append-nil}
 use Rattle.std.specs.Str.{bytes_eq}
 use Rattle.nova_value.specs.declared.schema.Entry.{Entry}
 use Rattle.nova_delta.specs.Merge.{DeltaValue, TableValue, merge_of}
-use Rattle.nova_outside.specs.History.{Event, Begins, current, replies}
+use Rattle.nova_outside.specs.History.{Event, current, replies}
 use Rattle.nova_outside.specs.Replies.{Gives, GivesInPart}
 use Rattle.nova_outside.proofs.ReplyLemmas.{begins_nothing, replies_grow}
 use Rattle.nova_machine.specs.Flow.{Flow, channel_in}
@@ -19,9 +19,10 @@ use Rattle.nova_engine.specs.declared.stop.Stop.TheVariants.{Disk, Reply, Full, 
 use Rattle.nova_engine.specs.declared.kept.Store.{Store}
 use Rattle.nova_engine.specs.Flow.{raw_flow, raw_schema}
 use Rattle.nova_engine.specs.Positions.{Loading}
-use Rattle.nova_engine.specs.Steps.{Adds, Adding, StopsIn}
+use Rattle.nova_engine.specs.Steps.{Adding, StopsIn}
 use Rattle.nova_engine.specs.Stored.{Stands, load_of}
-use Rattle.nova_engine.proofs.Storing.{keeps_stands, keeps_replied, stands_replied, in_host_replied}
+use Rattle.nova_engine.proofs.Lengths.{grows_still}
+use Rattle.nova_engine.proofs.Storing.{grows_replied, keeps_stands, keeps_replied, stands_replied, in_host_replied}
 use Rattle.nova_engine.specs.Standing.{InHost, StandsFor, Takes, LoadsFrom, LoadBreaks, raw_delta}
 use Rattle.nova_engine.specs.Words.{names_raw}
 
@@ -75,7 +76,7 @@ pub in_host_still : (h : Bool) (store : Store) (a b : List Event) (bytes : List 
 in_host_still h store a b bytes gives is honest = in_host_replied store.journal.generation store.journal.length a b bytes (gives honest) (is honest)
 
 adds_of : (h : Bool) (a b : List Event) (bytes : List ℕ) → Gives h a b bytes → Adding h a b bytes
-adds_of h a b bytes gives honest = replies_grow a b bytes (gives honest)
+adds_of h a b bytes gives honest = record { replied = replies_grow a b bytes (gives honest); grows = grows_replied a b bytes (gives honest) }
 
 -- a step that only replies was taken
 pub takes_reply : (h : Bool) (s : State) (x : Step) (xs : List Step) (store : Store) (a b : List Event) → xs ≡ x ∷ [] → after s x ≡ s → StandsFor h store a s → Gives h a b (reply_to s x) → Takes h s xs store a b
@@ -84,7 +85,7 @@ takes_reply h s x xs store a b is still stands gives =
 
 -- no step
 pub takes_nothing : (h : Bool) (s : State) (xs : List Step) (store : Store) (a : List Event) → xs ≡ [] → StandsFor h store a s → Takes h s xs store a a
-takes_nothing h s xs store a is stands = rw is (record { stands = stands; adds = λ honest. sym (append-nil (replies a)) })
+takes_nothing h s xs store a is stands = rw is (record { stands = stands; adds = λ honest. record { replied = sym (append-nil (replies a)); grows = grows_still a a refl } })
 
 -- a step that only replies broke off
 pub stops_reply : (h : Bool) (s : State) (x : Step) (xs : List Step) (store : Store) (a b : List Event) → xs ≡ x ∷ [] → after s x ≡ s → StandsFor h store a s → GivesInPart h a b (reply_to s x) → StopsIn Reply h s xs a b
@@ -99,6 +100,7 @@ stops_reply h s x xs store a b is still stands broke honest =
       within = record { front = rw append-nil part.front; behind = λ some. begins_nothing part.given };
       whole = λ other. absurd (other refl);
       held = inl (rw still held);
+      grows = grows_replied a b part.given part.replied;
       full = λ e. cc;
     })
 
@@ -112,6 +114,7 @@ stops_at_once h s xs store a stands honest = record {
   within = record { front = ([], refl); behind = λ some. absurd (omega arith) };
   whole = λ other. refl;
   held = inl (keeps_stands _ _ a s (stands.keeps honest));
+  grows = grows_still a a refl;
   full = λ e. cc;
 }
 
@@ -134,7 +137,9 @@ takes_load h old new payload s entries delta xs a b is stands made read table ve
         table = law.1 ∙ merged_raw (newest_table s 0) (channel_in s.flow 0).schema entries delta schema made ∙ ap (λ (m : TableValue). merge_of m delta) stands.table ∙ sym table;
         keeps = λ honest. (loads honest s entries (stands.keeps honest) read).keeps;
       };
-      adds = λ honest. rw append-nil ((loads honest s entries (stands.keeps honest) read).adds);
+      adds = λ honest.
+          let done = loads honest s entries (stands.keeps honest) read in
+          record { replied = rw append-nil done.adds; grows = done.grows };
     })
 
 -- a load that stopped
@@ -150,6 +155,7 @@ stops_load Reply h old payload s entries xs a b is stands read breaks honest =
       within = record { front = rw append-nil broke.1; behind = λ some. begins_nothing broke.0 };
       whole = λ other. absurd (other refl);
       held = inl broke.3;
+      grows = broke.4;
       full = λ e. cc;
     })
 stops_load Disk h old payload s entries xs a b is stands read breaks honest =
@@ -162,6 +168,7 @@ stops_load Disk h old payload s entries xs a b is stands read breaks honest =
       within = record { front = ([], refl); behind = λ some. absurd (omega arith) };
       whole = λ other. refl;
       held = elim broke.1 [ inl same ↦ inl same | inr next ↦ inr (refl, next) ];
+      grows = broke.2;
       full = λ e. cc;
     })
 stops_load Full h old payload s entries xs a b is stands read breaks honest =
@@ -174,6 +181,7 @@ stops_load Full h old payload s entries xs a b is stands read breaks honest =
       within = record { front = ([], refl); behind = λ some. absurd (omega arith) };
       whole = λ other. refl;
       held = inl broke.1;
+      grows = broke.3;
       full = λ e. record { payload = payload; entries = entries; read = read; next = refl; full = broke.2 };
     })
 stops_load Memory h old payload s entries xs a b is stands read breaks honest =
@@ -186,5 +194,6 @@ stops_load Memory h old payload s entries xs a b is stands read breaks honest =
       within = record { front = ([], refl); behind = λ some. absurd (omega arith) };
       whole = λ other. refl;
       held = inl broke.1;
+      grows = broke.2;
       full = λ e. cc;
     })

@@ -1,15 +1,15 @@
 -- What the words ask for, and what a call tells of the files that it began with.
-use Rattle.std.specs.Prelude.{◌≡◌, ◌≢◌, ◌⊎◌, ℕ, Bool, List, [], ◌∷◌, ◌++◌, Some, None, codes, IsTrue}
+use Rattle.std.specs.Prelude.{◌≡◌, ◌≢◌, ◌⊎◌, ℕ, Bool, List, [], ◌∷◌, None, codes}
 use Rattle.nova_outside.specs.Disk.{Files}
 use Rattle.nova_outside.specs.History.{Event, current}
+use Rattle.nova_outside.specs.Replies.{Gives, GivesInPart}
 use Rattle.nova_journal.specs.Marks.{IsMark}
 use Rattle.nova_engine.specs.declared.opening.Unopened.{Unopened}
 use Rattle.nova_engine.specs.declared.opening.Unopened.TheVariants as unopened
 use Rattle.nova_engine.specs.declared.status.Status.{Status}
-use Rattle.nova_engine.specs.declared.status.Status.TheVariants.{Done, Usage, ReadFault, DiskFault, ReplyFault, NoMemory, NoStore, StoreThere, Damaged, Full, InputTooLong}
-use Rattle.nova_engine.specs.Opening.{IsBad, HasMark, InitTold, DamageTold, MissingTold, AddsInPart, damaged_line}
+use Rattle.nova_engine.specs.declared.status.Status.TheVariants.{Done, ReadFault, DiskFault, ReplyFault, NoMemory, NoStore, Damaged, Full, InputTooLong}
+use Rattle.nova_engine.specs.Opening.{IsBad, InitTold, DamageTold, MissingTold, damaged_line}
 use Rattle.nova_engine.specs.Status.{code_of}
-use Rattle.nova_engine.specs.Steps.{Adds}
 
 -- ---- words
 
@@ -54,20 +54,24 @@ IsRunEnd status = IsSessionEnd status ⊎ IsUnopenedEnd status
 abbrev pub EndsUnopened : Bool → Unopened → Status → List Event → List Event → Type 0
 EndsUnopened is_honest unopened.Disk status a b = (status ≡ DiskFault) × (b ≡ a)
 EndsUnopened is_honest unopened.NoStore status a b = (status ≡ NoStore) × (b ≡ a)
-EndsUnopened is_honest (unopened.Damaged file at) Damaged a b = IsTrue is_honest → Adds a b (damaged_line file at)
-EndsUnopened is_honest (unopened.Damaged file at) ReplyFault a b = IsTrue is_honest → AddsInPart a b (damaged_line file at)
+EndsUnopened is_honest (unopened.Damaged file at) Damaged a b = Gives is_honest a b (damaged_line file at)
+EndsUnopened is_honest (unopened.Damaged file at) ReplyFault a b = GivesInPart is_honest a b (damaged_line file at)
 EndsUnopened is_honest (unopened.Damaged file at) _ a b = ⊥
 EndsUnopened is_honest unopened.Memory status a b = (status ≡ NoMemory) × (b ≡ a)
 
 abbrev pub HasDamage : Files → Type 0
 HasDamage files = (file : ℕ) × (at : ℕ) × IsBad files file at
 
+-- each file reads as before
+abbrev pub ReadSame : List Event → List Event → Type 0
+ReadSame a b = (n : ℕ) → current b n ≡ current a n
+
 -- how a session's call treats the files that it finds: no store, or none that is whole, in both directions
 pub record RunTold (status : Status) (a b : List Event) : Type 0 where
   pub no_store : status ≡ NoStore → IsMark (current a) None
-  pub missing : IsMark (current a) None → MissingTold status a b
+  pub missing : IsMark (current a) None → MissingTold status a b × ReadSame a b
   pub damage : status ≡ Damaged → HasDamage (current a)
-  pub damaged : (file at : ℕ) → IsBad (current a) file at → DamageTold status file at a b
+  pub damaged : (file at : ℕ) → IsBad (current a) file at → DamageTold status file at a b × ReadSame a b
 
 -- the same by the statuses' numbers
 abbrev pub Runs : ℕ → List Event → List Event → Type 0

@@ -6,7 +6,7 @@ use Rattle.nova_machine.specs.Steps.{Step, after_all}
 use Rattle.nova_machine.specs.Commands.{commands_of, whole_commands_of, steps}
 use Rattle.nova_machine.specs.Replies.{text}
 use Rattle.nova_engine.specs.Steps.{Adds, IsWithin, NoRoom}
-use Rattle.nova_engine.specs.Stored.{Stands}
+use Rattle.nova_engine.specs.Stored.{GrowsWithin, Stands}
 
 -- the steps of a whole session, from the state that it was opened with
 abbrev pub session_steps : State → List ℕ → List Step
@@ -28,6 +28,8 @@ pub record RepliesTold (status : ℕ) (opened : State) (input taken : List ℕ) 
   -- after a failed call on a file perhaps behind one step more
   pub held : Stands (current new) (after_all opened (take k (session_steps opened input)))
       ⊎ ((status ≡ 3) × Stands (current new) (after_all opened (take (k + 1) (session_steps opened input))))
+  -- no load was kept past the bound
+  pub grows : GrowsWithin (current old) (current new)
   -- a load that the journal has no room for comes next
   pub full : status ≡ 10 → NoRoom (current new) (session_steps opened input) k
   -- a read that failed, or an input that was too long: the commands that were taken whole

@@ -1,5 +1,5 @@
 -- What is read from a journal's payloads.
-use Rattle.std.specs.Prelude.{◌≡◌, ℕ, ◌+◌, ◌<◌, List, length, Option, Some, IsTrue}
+use Rattle.std.specs.Prelude.{◌≡◌, ℕ, ◌+◌, ◌<◌, List, length, Some}
 use Rattle.nova_value.specs.declared.schema.Entry.{Entry}
 use Rattle.nova_delta.specs.Merge.{DeltaValue, TableValue}
 use Rattle.nova_journal.specs.Log.{IsPlaced, payloads_of}

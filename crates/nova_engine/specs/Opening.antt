@@ -1,5 +1,5 @@
 -- How a call makes a store, and how it opens one.
-use Rattle.std.specs.Prelude.{◌≡◌, ◌⊎◌, ℕ, Bool, ◌+◌, ◌*◌, List, [], ◌++◌, Option, Some, None, IsTrue, codes, decimal}
+use Rattle.std.specs.Prelude.{◌≡◌, ◌⊎◌, ℕ, Bool, ◌*◌, List, [], ◌++◌, Option, Some, None, codes, decimal}
 use Rattle.nova_outside.specs.Disk.{Files}
 use Rattle.nova_outside.specs.History.{Event, Begins, current}
 use Rattle.nova_journal.specs.Fault.{IsDamaged}

@@ -21,7 +21,7 @@ use Rattle.nova_journal.specs.declared.fault.LogFault.TheVariants as fault
 use Rattle.nova_engine.specs.Flow.{raw_flow, raw_schema}
 use Rattle.nova_engine.specs.Positions.{Loading, with_row, load_after, ended_by}
 use Rattle.nova_engine.specs.Steps.{Adds, Adding, StopsIn}
-use Rattle.nova_engine.specs.Stored.{IsFull, Keeps, Stands, load_of, with_newlines}
+use Rattle.nova_engine.specs.Stored.{GrowsWithin, IsFull, Keeps, Stands, load_of, with_newlines}
 use Rattle.nova_engine.specs.Words.{names_raw}
 
 -- the store holds the newest version of the one channel, and its journal in the host the loads that led there
@@ -123,14 +123,15 @@ BreaksLine stop is_honest old a b line = (load : Option Loading) → StandsForPe
 -- what a load leaves: its line is replied, and the journal holds it
 pub record Loaded (s next : State) (new : Store) (a b : List Event) (line : List ℕ) : Type 0 where
   pub adds : Adds a b line
+  pub grows : GrowsWithin (current a) (current b)
   pub keeps : Keeps new.journal.generation new.journal.length b next
 
 -- a load that stopped: only where a reply failed was any of its line given, and then the journal holds it; after a fault of the disk it may
 abbrev pub LoadStops : Stop → List ℕ → State → State → List Event → List Event → List ℕ → Type 0
-LoadStops Disk payload s next a b line = Adds a b [] × (Stands (current b) s ⊎ Stands (current b) next)
-LoadStops Reply payload s next a b line = (given : List ℕ) × Begins given line × Adds a b given × Stands (current b) next
-LoadStops Full payload s next a b line = Adds a b [] × Stands (current b) s × IsFull (current b) payload
-LoadStops Memory payload s next a b line = Adds a b [] × Stands (current b) s
+LoadStops Disk payload s next a b line = Adds a b [] × (Stands (current b) s ⊎ Stands (current b) next) × GrowsWithin (current a) (current b)
+LoadStops Reply payload s next a b line = (given : List ℕ) × Begins given line × Adds a b given × Stands (current b) next × GrowsWithin (current a) (current b)
+LoadStops Full payload s next a b line = Adds a b [] × Stands (current b) s × IsFull (current b) payload × GrowsWithin (current a) (current b)
+LoadStops Memory payload s next a b line = Adds a b [] × Stands (current b) s × GrowsWithin (current a) (current b)
 
 -- the same of each state that the journal held, where the payload is a load's
 abbrev pub LoadsFrom : Bool → Store → Store → List ℕ → List Event → List Event → List ℕ → Type 0
@@ -146,13 +147,14 @@ LoadBreaks stop is_honest old payload a b line =
 -- what appending a load leaves
 pub record Appended (next : State) (new : Journal) (a b : List Event) : Type 0 where
   pub adds : Adds a b []
+  pub grows : GrowsWithin (current a) (current b)
   pub keeps : Keeps new.generation new.length b next
 
 abbrev pub AppendStops : Stop → List ℕ → State → State → List Event → List Event → Type 0
-AppendStops Disk payload s next a b = Adds a b [] × (Stands (current b) s ⊎ Stands (current b) next)
+AppendStops Disk payload s next a b = Adds a b [] × (Stands (current b) s ⊎ Stands (current b) next) × GrowsWithin (current a) (current b)
 AppendStops Reply payload s next a b = ⊥
-AppendStops Full payload s next a b = Adds a b [] × Stands (current b) s × IsFull (current b) payload
-AppendStops Memory payload s next a b = Adds a b [] × Stands (current b) s
+AppendStops Full payload s next a b = Adds a b [] × Stands (current b) s × IsFull (current b) payload × GrowsWithin (current a) (current b)
+AppendStops Memory payload s next a b = Adds a b [] × Stands (current b) s × GrowsWithin (current a) (current b)
 
 abbrev pub Appends : Bool → Journal → Journal → List ℕ → List Event → List Event → Type 0
 Appends is_honest old new payload a b =

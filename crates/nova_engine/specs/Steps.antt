@@ -9,15 +9,20 @@ use Rattle.nova_machine.specs.Steps.{Step, Load, after_all}
 use Rattle.nova_machine.specs.Replies.{text}
 use Rattle.nova_engine.specs.declared.stop.Stop.{Stop}
 use Rattle.nova_engine.specs.declared.stop.Stop.TheVariants.{Disk, Reply, Full}
-use Rattle.nova_engine.specs.Stored.{IsFull, Stands, load_of}
+use Rattle.nova_engine.specs.Stored.{GrowsWithin, IsFull, Stands, load_of}
 
 -- these bytes were replied
 abbrev pub Adds : List Event → List Event → List ℕ → Type 0
 Adds old new bytes = replies new ≡ replies old ++ bytes
 
+-- the same, and no load was kept past the journal's bound
+pub record Added (old new : List Event) (bytes : List ℕ) : Type 0 where
+  pub replied : Adds old new bytes
+  pub grows : GrowsWithin (current old) (current new)
+
 -- the same of a host that is honest
 abbrev pub Adding : Bool → List Event → List Event → List ℕ → Type 0
-Adding is_honest old new bytes = IsTrue is_honest → Adds old new bytes
+Adding is_honest old new bytes = IsTrue is_honest → Added old new bytes
 
 -- a front of the text of k steps that begins with the text of k - 1
 pub record IsWithin (s : State) (xs : List Step) (k : ℕ) (given : List ℕ) : Type 0 where
@@ -41,6 +46,7 @@ pub record Stops (stop : Stop) (s : State) (xs : List Step) (old new : List Even
   pub within : IsWithin s xs k given
   pub whole : stop ≢ Reply → given ≡ text s (take k xs)
   pub held : Stands (current new) (after_all s (take k xs)) ⊎ ((stop ≡ Disk) × Stands (current new) (after_all s (take (k + 1) xs)))
+  pub grows : GrowsWithin (current old) (current new)
   pub full : stop ≡ Full → NoRoom (current new) xs k
 
 -- the same of a host that is honest

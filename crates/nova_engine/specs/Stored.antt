@@ -1,5 +1,5 @@
 -- What a store's files hold: a journal of loads.
-use Rattle.std.specs.Prelude.{◌≡◌, ℕ, ◌+◌, ◌*◌, ◌^◌, ◌<◌, ◌==◌, Bool, true, false, ◌&&◌, List, [], ◌∷◌, ◌++◌, length, Option, Some, None, option_map, Result, Ok, Err, codes, if◌then◌else◌, is_some}
+use Rattle.std.specs.Prelude.{◌≡◌, ◌⊎◌, ℕ, ◌≤◌, ◌+◌, ◌*◌, ◌^◌, ◌<◌, ◌==◌, Bool, true, List, [], ◌∷◌, ◌++◌, length, Option, Some, None, Result, Ok, Err, codes, if◌then◌else◌, is_some}
 use Rattle.std.specs.Str.{bytes_eq}
 use Rattle.nova_value.specs.declared.schema.Entry.{Entry}
 use Rattle.nova_outside.specs.Disk.{Files, Only}
@@ -63,14 +63,22 @@ pub record Stands (files : Files) (s : State) : Type 0 where
   pub log : IsLog payloads (files (4 * generation))
   pub stored : AreStored payloads s
 
--- the journal of these files has no room for a load: with its record it would be longer than 2^62 bytes
-pub record IsFull (files : Files) (payload : List ℕ) : Type 0 where
+-- the newest journal of these files has this length, the last gate included
+pub record IsLong (files : Files) (end : ℕ) : Type 0 where
   pub generation : ℕ
   pub marked : IsMark files (Some generation)
   pub payloads : List (List ℕ)
-  pub end : ℕ
   pub log : LogTo end payloads (files (4 * generation))
+
+-- the journal of these files has no room for a load: with its record it would be longer than 2^62 bytes
+pub record IsFull (files : Files) (payload : List ℕ) : Type 0 where
+  pub end : ℕ
+  pub long : IsLong files end
   pub past : 2 ^ 62 < end + length (frame payload)
+
+-- no record was added to the newest journal that brought it past 2^62 bytes
+abbrev pub GrowsWithin : Files → Files → Type 0
+GrowsWithin old new = (n : ℕ) → IsLong old n → (m : ℕ) × IsLong new m × ((m ≡ n) ⊎ (m ≤ 2 ^ 62))
 
 -- an open journal of this generation and length holds the state, and nothing is pending on its file
 pub record Keeps (generation end : ℕ) (h : List Event) (s : State) : Type 0 where

@@ -1,4 +1,4 @@
-use Rattle.std.proofs.Common.{◌≡◌, ◌∙◌, ap}
+use Rattle.std.proofs.Common.{◌∙◌, ap}
 use Rattle.nova_journal.specs.Log.{frame}
 use Rattle.nova_engine.specs.Stored.{flow_text}
 use Rattle.nova_engine.proofs.OneStore.{create_stop, create_stopped, mark_stopped}

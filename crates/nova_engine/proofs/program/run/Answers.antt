@@ -9,12 +9,12 @@ returns-in-Ok-clause-files g c honest =
 pub returns-in-Ok-clause-told : goal.returns-in-Ok-clause-told
 returns-in-Ok-clause-told g c = λ input is.
     let H = g.H.Host.history in
-    told_opened _ _ c.in-Ok.store (H c.args.host.now) (H c.open.new.host) (H c.run_session.new.host) input _ c.in-Ok.ensures.opened c.in-Ok.ensures.replies (c.run_session.ensures.told input is)
+    told_opened _ _ c.in-Ok.store (H c.args.host.now) (H c.open.new.host) (H c.run_session.new.host) input _ c.in-Ok.ensures.opened c.in-Ok.ensures.files c.in-Ok.ensures.replies (c.run_session.ensures.told input is)
 
 pub returns-in-Err-clause-files : goal.returns-in-Err-clause-files
 returns-in-Err-clause-files g c honest =
     let H = g.H.Host.history in
-    run_unopened _ c.in-Err.why c.end_unopened.result (H c.args.host.now) (H c.open.new.host) (H c.end_unopened.new.host) honest (c.in-Err.ensures.opened honest) (c.in-Err.ensures.replies honest) c.end_unopened.ensures.ends
+    run_unopened _ c.in-Err.why c.end_unopened.result (H c.args.host.now) (H c.open.new.host) (H c.end_unopened.new.host) honest (c.in-Err.ensures.opened honest) (c.in-Err.ensures.files honest) (c.in-Err.ensures.replies honest) c.end_unopened.ensures.ends
 
 pub returns-in-Err-clause-told : goal.returns-in-Err-clause-told
 returns-in-Err-clause-told g c = λ input is.

@@ -49,9 +49,15 @@ fn read(alloc: Global, line: &[u8], schema: &Schema) -> Result<Entry, RowFault>
     row_from_text(alloc, line, schema)
 }
 
-/// A put of 1, a text of this byte so many times, and what stands behind it.
-fn long_line(alloc: Global, byte: u8, count: usize, end: &[u8]) -> Result<Vec<u8>, AllocError> {
-    let mut line = Vec::from_slice(alloc, b"+1\t")?;
+/// A start, a byte so many times, and an end.
+fn long_line(
+    alloc: Global,
+    start: &[u8],
+    byte: u8,
+    count: usize,
+    end: &[u8],
+) -> Result<Vec<u8>, AllocError> {
+    let mut line = Vec::from_slice(alloc, start)?;
     let text = vec![in alloc; byte; count]?;
     line.extend_from_slice(&text)?;
     line.extend_from_slice(end)?;
@@ -62,11 +68,12 @@ fn long_line(alloc: Global, byte: u8, count: usize, end: &[u8]) -> Result<Vec<u8
 fn each_fault(rt: HostRuntime) -> Result<(), Fail> {
     let alloc = rt.alloc();
     let schema = schema(alloc)?;
-    let long = long_line(alloc, b'x', 65536, b"\t2")?;
-    let no_text = long_line(alloc, 0xff, 65536, b"\t2")?;
-    let no_number = long_line(alloc, b'x', 65536, b"\tx")?;
-    let few = long_line(alloc, b'x', 65536, b"")?;
-    let cases: [(&[u8], RowFault, &str); 22] = [
+    let long = long_line(alloc, b"+1\t", b'x', 65536, b"\t2")?;
+    let no_text = long_line(alloc, b"+1\t", 0xff, 65536, b"\t2")?;
+    let no_number = long_line(alloc, b"+1\t", b'x', 65536, b"\tx")?;
+    let late = long_line(alloc, b"+x\t", b'x', 65536, b"\t2")?;
+    let few = long_line(alloc, b"+1\t", b'x', 65536, b"")?;
+    let cases: [(&[u8], RowFault, &str); 24] = [
         (b"", RowFault::WrongSign, "nothing"),
         (b"1\ta\t2", RowFault::WrongSign, "no sign"),
         (b" +1\ta\t2", RowFault::WrongSign, "a space in front"),
@@ -74,6 +81,11 @@ fn each_fault(rt: HostRuntime) -> Result<(), Fail> {
             b"x",
             RowFault::WrongSign,
             "the sign comes before the number of fields",
+        ),
+        (
+            b"x\t\xff\ty",
+            RowFault::WrongSign,
+            "and before what is wrong with them",
         ),
         (b"+", RowFault::FieldCount, "one field, which is empty"),
         (b"+1\ta", RowFault::FieldCount, "too few"),
@@ -133,6 +145,11 @@ fn each_fault(rt: HostRuntime) -> Result<(), Fail> {
             RowFault::BadNumber { field: 0 },
             "a bad number before what is no text",
         ),
+        (
+            &late,
+            RowFault::BadNumber { field: 0 },
+            "a bad number before a long text",
+        ),
     ];
     for (line, want, why) in cases {
         assert_eq!(rt; read(alloc, line, &schema).err(), Some(want), "{why}");
@@ -144,7 +161,7 @@ fn each_fault(rt: HostRuntime) -> Result<(), Fail> {
 fn rows_are_read(rt: HostRuntime) -> Result<(), Fail> {
     let alloc = rt.alloc();
     let schema = schema(alloc)?;
-    let longest = long_line(alloc, b'x', 65535, b"\t2")?;
+    let longest = long_line(alloc, b"+1\t", b'x', 65535, b"\t2")?;
     let text = vec![in alloc; b'x'; 65535]?;
     let cases: [(&[u8], i64, &[u8], i64); 4] = [
         (b"+1\t/a\t200", 1, b"/a", 200),

@@ -1,0 +1,6 @@
+//! Plans and their meaning.
+#![tactic(auto)]
+
+mod node;
+
+pub use node::{Node, PlanExpr, Sort};

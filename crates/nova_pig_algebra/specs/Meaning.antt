@@ -1,17 +1,16 @@
--- What a plan means: the list of rows of each node.
-use Rattle.std.specs.Prelude.{◌≡◌, ℕ, zero, suc, ℤ, pos, ◌+ℤ◌, ◌-ℤ◌, ◌*ℤ◌, neg_ℤ, Bool, true, false, not, ◌&&◌, ◌||◌, if◌then◌else◌, List, [], ◌∷◌, ◌++◌, map, filter, fold, flat_map, length, slice_get, slice_index_or, Option, Some, None}
-use Rattle.std.specs.Ordering.{eq_by_cmp}
-use Rattle.nova_value.specs.Order.{value_cmp, key_cmp}
-use Rattle.nova_value.specs.Rows.{value_at, key_at}
-use Rattle.std.specs.Int.{int_wrap, w64}
-use Rattle.std.specs.Ordering.{is_eq, is_ne, is_lt, is_le, is_gt, is_ge}
+-- What expressions mean: a value, or a condition that holds or not.
+use Rattle.std.specs.Prelude.{◌==◌, ℕ, ℤ, pos, ◌+ℤ◌, ◌-ℤ◌, ◌*ℤ◌, neg_ℤ, Bool, true, false, not, ◌&&◌, ◌||◌, if◌then◌else◌, List, [], ◌∷◌, ◌++◌, map, fold, length, Option, Some, None}
+use Rattle.std.specs.Ordering.{eq_by_cmp, is_eq, is_ne, is_lt, is_le, is_gt, is_ge}
 use Rattle.std.specs.declared.cmp.Ordering.{Ordering}
-use Rattle.nova_pig_tree.specs.declared.expression.CallKind.{CallKind}
-use Rattle.nova_pig_tree.specs.declared.expression.CallKind.TheVariants as k
-use Rattle.nova_pig_tree.specs.declared.expression.CompareOp.{CompareOp}
-use Rattle.nova_pig_tree.specs.declared.expression.CompareOp.TheVariants as c
 use Rattle.nova_value.specs.declared.value.Value.{Value}
 use Rattle.nova_value.specs.declared.value.Value.TheVariants.{Long, Text}
+use Rattle.nova_value.specs.Order.{value_cmp, key_cmp}
+use Rattle.nova_value.specs.Rows.{value_at}
+use Rattle.nova_value.specs.Wrapped.{wrapped}
+use Rattle.nova_pig_tree.specs.declared.expression.CallKind.{CallKind}
+use Rattle.nova_pig_tree.specs.declared.expression.CallKind.TheVariants as call
+use Rattle.nova_pig_tree.specs.declared.expression.CompareOp.{CompareOp}
+use Rattle.nova_pig_tree.specs.declared.expression.CompareOp.TheVariants as compare
 use Rattle.nova_pig_algebra.specs.declared.node.PlanExpr.{PlanExpr}
 use Rattle.nova_pig_algebra.specs.declared.node.PlanExpr.TheOpen.{PlanExpr-F}
 use Rattle.nova_pig_algebra.specs.declared.node.PlanExpr.TheFolds.{fold-PlanExpr}
@@ -19,130 +18,126 @@ use Rattle.nova_pig_algebra.specs.declared.node.PlanExpr.TheFolds.{fold-PlanExpr
 abbrev pub Row : Type 0
 Row = List Value
 
-abbrev pub compare_value : Value → Value → Ordering
-compare_value = value_cmp
-
-abbrev pub compare_row : Row → Row → Ordering
-compare_row = key_cmp
-
 abbrev pub same_row : Row → Row → Bool
 same_row = eq_by_cmp key_cmp
 
-abbrev pub at : Row → ℕ → Value
-at row k = value_at row k
+-- a call over the members of a group: COUNT, SUM, MIN or MAX, of a column; a COUNT of the bag has none
+pub record Call : Type 0 where
+  pub kind : CallKind
+  pub column : Option ℕ
 
-abbrev pub by : List ℕ → Row → Row
-by columns row = key_at columns row
+-- what each call gives
+abbrev pub Calls : Type 0
+Calls = Call → Value
 
-abbrev pub wrap : ℤ → ℤ
-wrap = int_wrap w64
+-- over a row no call stands
+abbrev pub no_calls : Calls
+no_calls c = Long (pos 0)
 
--- a plan takes longs only where its kinds say so
+-- the number of a long; kinds leave no other value where one is taken
 abbrev pub long_of : Value → ℤ
 long_of (Long n) = n
 long_of (Text t) = pos 0
 
 abbrev pub passes : CompareOp → Ordering → Bool
-passes c.Eq o = is_eq o
-passes c.Ne o = is_ne o
-passes c.Lt o = is_lt o
-passes c.Le o = is_le o
-passes c.Gt o = is_gt o
-passes c.Ge o = is_ge o
+passes compare.Eq o = is_eq o
+passes compare.Ne o = is_ne o
+passes compare.Lt o = is_lt o
+passes compare.Le o = is_le o
+passes compare.Gt o = is_gt o
+passes compare.Ge o = is_ge o
 
-abbrev pub lesser : Value → Value → Value
-lesser a b = if is_lt (compare_value b a) then b else a
+-- the whole sum of numbers
+abbrev pub total : List ℤ → ℤ
+total [] = pos 0
+total (n ∷ ns) = n +ℤ total ns
 
-abbrev pub greater : Value → Value → Value
-greater a b = if is_lt (compare_value a b) then b else a
+-- the first value that no other comes before
+abbrev pub pick : (Value → Value → Ordering) → Value → Value → Value
+pick order a b = if is_lt (order b a) then b else a
 
-abbrev pub best : (Value → Value → Value) → List Value → Value
-best pick [] = Long (pos 0)
-best pick (v ∷ vs) = fold pick v vs
+abbrev pub best : (Value → Value → Ordering) → List Value → Value
+best order [] = Long (pos 0)
+best order (v ∷ vs) = fold (pick order) v vs
 
-abbrev pub aggregate : CallKind → ℕ → List Row → Value
-aggregate k.Count column members = Long (wrap (pos (length members)))
-aggregate k.Sum column members = Long (wrap (fold (λ sum row. sum +ℤ long_of (at row column)) (pos 0) members))
-aggregate k.Min column members = best lesser (map (λ row. at row column) members)
-aggregate k.Max column members = best greater (map (λ row. at row column) members)
+abbrev pub least : List Value → Value
+least = best value_cmp
 
-abbrev pub column_or_first : Option ℕ → ℕ
-column_or_first (Some column) = column
-column_or_first None = 0
+abbrev pub greatest : List Value → Value
+greatest = best (λ a b. value_cmp b a)
 
--- what an expression gives as a value, and as a condition, over a row, which has no members, or over a group, whose row has its BY values
+-- the values of a column
+abbrev pub column_of : Option ℕ → List Row → List Value
+column_of None rows = []
+column_of (Some k) rows = map (λ row. value_at row k) rows
+
+-- what a call gives over the members of a group: COUNT their wrapped number, SUM the wrapped sum of a column, MIN and MAX its least and greatest value
+abbrev pub kind_over : CallKind → Option ℕ → List Row → Value
+kind_over call.Count column members = Long (wrapped (pos (length members)))
+kind_over call.Sum column members = Long (wrapped (total (map long_of (column_of column members))))
+kind_over call.Min column members = least (column_of column members)
+kind_over call.Max column members = greatest (column_of column members)
+
+abbrev pub calls_over : List Row → Calls
+calls_over members c = kind_over c.kind c.column members
+
+-- an expression's meaning over a row; or over a group, where the row is its BY values and each call gives what is said of it
 pub record Given : Type 0 where
-  pub val : Row → List Row → Value
-  pub holds : Row → List Row → Bool
+  pub value : Row → Calls → Value
+  pub holds : Row → Calls → Bool
 
-abbrev pub val_of : PlanExpr-F Given → Row → List Row → Value
-val_of (PlanExpr-F.Num n) row members = Long n
-val_of (PlanExpr-F.Lit t) row members = Text t
-val_of (PlanExpr-F.Col column) row members = at row column
-val_of (PlanExpr-F.GroupCol column) row members = at row column
-val_of (PlanExpr-F.Agg kind column) row members = aggregate kind (column_or_first column) members
-val_of (PlanExpr-F.Neg a) row members = Long (wrap (neg_ℤ (long_of (a.val row members))))
-val_of (PlanExpr-F.Add a b) row members = Long (wrap (long_of (a.val row members) +ℤ long_of (b.val row members)))
-val_of (PlanExpr-F.Sub a b) row members = Long (wrap (long_of (a.val row members) -ℤ long_of (b.val row members)))
-val_of (PlanExpr-F.Mul a b) row members = Long (wrap (long_of (a.val row members) *ℤ long_of (b.val row members)))
-val_of (PlanExpr-F.If cond a b) row members = if cond.holds row members then a.val row members else b.val row members
-val_of _ row members = Long (pos 0)
+-- numbers wrap, and values compare in their order; the kinds leave no other case
+abbrev pub value_step : PlanExpr-F Given → Row → Calls → Value
+value_step (PlanExpr-F.Num n) row f = Long n
+value_step (PlanExpr-F.Lit t) row f = Text t
+value_step (PlanExpr-F.Col k) row f = value_at row k
+value_step (PlanExpr-F.GroupCol k) row f = value_at row k
+value_step (PlanExpr-F.Agg kind column) row f = f (record { kind = kind; column = column })
+value_step (PlanExpr-F.Neg a) row f = Long (wrapped (neg_ℤ (long_of (a.value row f))))
+value_step (PlanExpr-F.Add a b) row f = Long (wrapped (long_of (a.value row f) +ℤ long_of (b.value row f)))
+value_step (PlanExpr-F.Sub a b) row f = Long (wrapped (long_of (a.value row f) -ℤ long_of (b.value row f)))
+value_step (PlanExpr-F.Mul a b) row f = Long (wrapped (long_of (a.value row f) *ℤ long_of (b.value row f)))
+value_step (PlanExpr-F.If c a b) row f = if c.holds row f then a.value row f else b.value row f
+value_step _ row f = Long (pos 0)
 
-abbrev pub holds_of : PlanExpr-F Given → Row → List Row → Bool
-holds_of (PlanExpr-F.Compare op a b) row members = passes op (compare_value (a.val row members) (b.val row members))
-holds_of (PlanExpr-F.And a b) row members = a.holds row members && b.holds row members
-holds_of (PlanExpr-F.Or a b) row members = a.holds row members || b.holds row members
-holds_of (PlanExpr-F.Not a) row members = not (a.holds row members)
-holds_of _ row members = false
+abbrev pub holds_step : PlanExpr-F Given → Row → Calls → Bool
+holds_step (PlanExpr-F.Compare op a b) row f = passes op (value_cmp (a.value row f) (b.value row f))
+holds_step (PlanExpr-F.And a b) row f = a.holds row f && b.holds row f
+holds_step (PlanExpr-F.Or a b) row f = a.holds row f || b.holds row f
+holds_step (PlanExpr-F.Not a) row f = not (a.holds row f)
+holds_step _ row f = false
 
-abbrev pub given_of : PlanExpr-F Given → Given
-given_of layer = record { val = val_of layer; holds = holds_of layer }
+abbrev pub given_step : PlanExpr-F Given → Given
+given_step layer = record { value = value_step layer; holds = holds_step layer }
 
 unfoldable pub given : PlanExpr → Given
-given = fold-PlanExpr Given given_of
+given = fold-PlanExpr Given given_step
 
-abbrev pub val : PlanExpr → Row → List Row → Value
-val e = (given e).val
+-- the value of an expression
+abbrev pub value_of : PlanExpr → Row → Calls → Value
+value_of e = (given e).value
 
-abbrev pub holds : PlanExpr → Row → List Row → Bool
+-- whether a condition holds
+abbrev pub holds : PlanExpr → Row → Calls → Bool
 holds e = (given e).holds
 
-abbrev pub holds_at : PlanExpr → Row → Bool
-holds_at cond row = holds cond row []
+-- the row that items make
+abbrev pub made : List PlanExpr → Row → Calls → Row
+made items row f = map (λ e. value_of e row f) items
 
-abbrev pub made : List PlanExpr → Row → List Row → Row
-made items row members = map (λ e. val e row members) items
+-- the calls that stand in an expression, from the left
+abbrev pub calls_step : PlanExpr-F (List Call) → List Call
+calls_step (PlanExpr-F.Agg kind column) = record { kind = kind; column = column } ∷ []
+calls_step (PlanExpr-F.Neg a) = a
+calls_step (PlanExpr-F.Not a) = a
+calls_step (PlanExpr-F.Add a b) = a ++ b
+calls_step (PlanExpr-F.Sub a b) = a ++ b
+calls_step (PlanExpr-F.Mul a b) = a ++ b
+calls_step (PlanExpr-F.And a b) = a ++ b
+calls_step (PlanExpr-F.Or a b) = a ++ b
+calls_step (PlanExpr-F.Compare op a b) = a ++ b
+calls_step (PlanExpr-F.If c a b) = c ++ (a ++ b)
+calls_step _ = []
 
--- the list without later repeats
-abbrev pub distinct_after : List Row → List Row → List Row
-distinct_after seen [] = []
-distinct_after seen (row ∷ rows) =
-    let rest = distinct_after (row ∷ seen) rows in
-    if any_same row seen then distinct_after seen rows else row ∷ rest
-  where
-    any_same : Row → List Row → Bool
-    any_same row [] = false
-    any_same row (r ∷ rs) = same_row row r || any_same row rs
-
-abbrev pub distinct : List Row → List Row
-distinct = distinct_after []
-
--- puts a row into a rising list, where no equal one is
-abbrev pub put_in : Row → List Row → List Row
-put_in row [] = row ∷ []
-put_in row (r ∷ rs) = if is_lt (compare_row row r) then row ∷ r ∷ rs else (if is_eq (compare_row row r) then r ∷ rs else r ∷ put_in row rs)
-
--- the distinct rows, in their order
-abbrev pub rising : List Row → List Row
-rising = fold (λ rs row. put_in row rs) []
-
--- the groups of rows: for each distinct list of BY values those and the members
-abbrev pub groups : List ℕ → List Row → List (Row × List Row)
-groups columns rows = map (λ key. (key, filter (λ row. same_row (by columns row) key) rows)) (rising (map (by columns) rows))
-
-abbrev pub joined : List ℕ → List ℕ → List Row → List Row → List Row
-joined left_by right_by left right = flat_map (λ a. map (λ b. a ++ b) (filter (λ b. same_row (by left_by a) (by right_by b)) right)) left
-
-abbrev pub rows_at : List (List Row) → ℕ → List Row
-rows_at all k = slice_index_or all k []
-
+unfoldable pub calls : PlanExpr → List Call
+calls = fold-PlanExpr (List Call) calls_step

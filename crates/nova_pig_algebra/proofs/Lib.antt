@@ -1,0 +1,6 @@
+pub mod Lists
+pub mod Sets
+pub mod Values
+pub mod Items
+pub mod Rising
+pub mod Keyed

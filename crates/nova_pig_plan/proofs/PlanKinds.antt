@@ -17,13 +17,13 @@ use Rattle.nova_pig_plan.specs.declared.scope.Scope.{Scope}
 use Rattle.nova_pig_plan.specs.declared.scope.Scope.TheVariants.{Rows, Group}
 use Rattle.nova_pig_plan.specs.declared.scope.Defined.{Defined}
 use Rattle.nova_pig_plan.specs.declared.scope.Channels.{Channels}
-use Rattle.nova_pig_plan.specs.declared.scope.Plan.{Plan}
+use Rattle.nova_pig_plan.specs.declared.scope.Graph.{Graph}
 use Rattle.nova_pig_plan.specs.Answers.{Answer, first, if_not}
 use Rattle.nova_pig_plan.specs.Columns.{same_text, field_of}
 use Rattle.nova_pig_plan.specs.Items.{same_kind, column_at}
 use Rattle.nova_value.specs.Rows.{Shape}
 use Rattle.nova_pig_algebra.specs.declared.node.Node.TheVariants as node
-use Rattle.nova_pig_plan.specs.Plans.{all_known, all_alike, none_grouped, first_rows, rows_of, defined, fields_of, columns_at, same_kinds_at, from_alias, find, some_or, Aliases, fresh, known, ungrouped, load, group, join, union, op_of, define, store, test, same_kinds, channel_columns, statement_of, at_statement, plan, plan_after, plan_of}
+use Rattle.nova_pig_plan.specs.Plans.{all_known, all_alike, none_grouped, first_rows, rows_of, defined, fields_of, columns_at, same_kinds_at, from_alias, find, some_or, Aliases, fresh, known, ungrouped, load, group, join, union, op_of, define, store, test, same_kinds, channel_columns, statement_of, at_statement, graph, graph_after, graph_of}
 use Rattle.nova_pig_plan.specs.Sorts.{Over, Row, Bag, over, kinds}
 use Rattle.nova_pig_plan.specs.Kinded.{are_rows, all_rows, union_over, and_kind, kinds_at, as_bag, same_list, group_over, join_over, as_rows, node_over, overs, input_kinds, Kinded, nodes_over, and_then, output_over, IsKinded}
 use Rattle.nova_pig_plan.proofs.Sorted.{field_within}
@@ -275,27 +275,27 @@ store_kinded ch done alias channel k e = step (known done alias) refl e
     step (Ok x) is g = last x.0 x.1 (known_at alias done x.0 x.1 is) g
     step (Err c) is g = absurd cc
 
-abbrev PlanKinded : Channels → Result Plan (Cause × ℕ) → Type 0
+abbrev PlanKinded : Channels → Result Graph (Cause × ℕ) → Type 0
 PlanKinded ch (Ok p) = IsKinded ch p
 PlanKinded ch (Err c) = Unit {0}
 
-after_kinded : (ch : Channels) (n : ℕ) (done : Aliases) (nodes : List Node) (ss : List Statement) → nodes_over (input_kinds ch) [] nodes ≡ Some (overs done) → PlanKinded ch (plan_after ch n done nodes ss)
+after_kinded : (ch : Channels) (n : ℕ) (done : Aliases) (nodes : List Node) (ss : List Statement) → nodes_over (input_kinds ch) [] nodes ≡ Some (overs done) → PlanKinded ch (graph_after ch n done nodes ss)
 after_kinded ch n done nodes [] h = tt
 after_kinded ch n done nodes (s ∷ ss) h = step s.body (λ more all g. after_kinded ch (suc n) more all ss g)
   where
-    defines : (alias : List ℕ) (a : Answer Defined) → Kinded ch done a → ((more : Aliases) (all : List Node) → nodes_over (input_kinds ch) [] all ≡ Some (overs more) → PlanKinded ch (plan_after ch (suc n) more all ss))
-        → PlanKinded ch (at_statement n a (λ d. plan_after ch (suc n) (done ++ (alias, d.scope) ∷ []) (nodes ++ d.node ∷ []) ss))
+    defines : (alias : List ℕ) (a : Answer Defined) → Kinded ch done a → ((more : Aliases) (all : List Node) → nodes_over (input_kinds ch) [] all ≡ Some (overs more) → PlanKinded ch (graph_after ch (suc n) more all ss))
+        → PlanKinded ch (at_statement n a (λ d. graph_after ch (suc n) (done ++ (alias, d.scope) ∷ []) (nodes ++ d.node ∷ []) ss))
     defines alias (Ok d) k next = next _ _ (nodes_more (input_kinds ch) [] (overs done) nodes d.node (over d.scope) h k ∙ ap Some (sym (overs_more done alias d.scope)))
     defines alias (Err c) k next = tt
 
-    stores : (a : Answer ℕ) → ((k : ℕ) → a ≡ Ok k → slice_get (overs done) k ≡ Some (output_over ch)) → PlanKinded ch (at_statement n a (λ k. Ok (plan nodes k)))
+    stores : (a : Answer ℕ) → ((k : ℕ) → a ≡ Ok k → slice_get (overs done) k ≡ Some (output_over ch)) → PlanKinded ch (at_statement n a (λ k. Ok (graph nodes k)))
     stores (Ok k) g = record { all = overs done; nodes = h; stored = g k refl }
     stores (Err c) g = tt
 
-    step : (b : Body) → ((more : Aliases) (all : List Node) → nodes_over (input_kinds ch) [] all ≡ Some (overs more) → PlanKinded ch (plan_after ch (suc n) more all ss)) → PlanKinded ch (statement_of ch n done nodes b (λ more all. plan_after ch (suc n) more all ss))
+    step : (b : Body) → ((more : Aliases) (all : List Node) → nodes_over (input_kinds ch) [] all ≡ Some (overs more) → PlanKinded ch (graph_after ch (suc n) more all ss)) → PlanKinded ch (statement_of ch n done nodes b (λ more all. graph_after ch (suc n) more all ss))
     step (body.Define alias o) next = defines alias (define ch done alias o) (define_kinded ch done alias o) next
     step (body.Store alias channel) next = stores (store ch done alias channel) (store_kinded ch done alias channel)
 
 -- an answered plan has kinds
-pub plan_kinded : (ss : List Statement) (ch : Channels) (p : Plan) → plan_of ss ch ≡ Ok p → IsKinded ch p
+pub plan_kinded : (ss : List Statement) (ch : Channels) (p : Graph) → graph_of ss ch ≡ Ok p → IsKinded ch p
 plan_kinded ss ch p e = subst (PlanKinded ch) e (after_kinded ch 1 [] [] ss refl)

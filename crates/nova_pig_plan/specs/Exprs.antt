@@ -11,6 +11,7 @@ use Rattle.nova_pig_tree.specs.declared.expression.Expr.TheOpen.{Expr-F}
 use Rattle.nova_pig_tree.specs.declared.expression.Expr.TheFolds.{fold-Expr}
 use Rattle.nova_pig_algebra.specs.declared.node.PlanExpr.{PlanExpr}
 use Rattle.nova_pig_algebra.specs.declared.node.PlanExpr.TheVariants as p
+pub use Rattle.nova_pig_algebra.specs.Sorts.{long, is_long, is_condition, are_alike}
 use Rattle.nova_pig_algebra.specs.declared.node.Sort.{Sort}
 use Rattle.nova_pig_algebra.specs.declared.node.Sort.TheVariants.{Of, Condition}
 use Rattle.nova_pig_plan.specs.declared.fault.Cause.TheVariants as fault
@@ -23,24 +24,6 @@ use Rattle.nova_pig_plan.specs.Columns.{same_text, is_named, places, the_one, fi
 
 abbrev pub typed : PlanExpr → Sort → Typed
 typed e s = record { expr = e; sort = s }
-
-abbrev pub long : Sort
-long = Of kind.Long
-
-abbrev pub is_long : Sort → Bool
-is_long (Of kind.Long) = true
-is_long (Of kind.Text) = false
-is_long Condition = false
-
-abbrev pub is_condition : Sort → Bool
-is_condition (Of k) = false
-is_condition Condition = true
-
--- two values of one kind
-abbrev pub are_alike : Sort → Sort → Bool
-are_alike (Of kind.Long) (Of kind.Long) = true
-are_alike (Of kind.Text) (Of kind.Text) = true
-are_alike _ _ = false
 
 -- the name of a group's first column, as it is spelled
 abbrev pub group_name : List ℕ

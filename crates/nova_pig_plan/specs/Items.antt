@@ -14,6 +14,7 @@ use Rattle.nova_pig_algebra.specs.declared.node.PlanExpr.{PlanExpr}
 use Rattle.nova_pig_algebra.specs.declared.node.PlanExpr.TheVariants as p
 use Rattle.nova_pig_algebra.specs.declared.node.Sort.{Sort}
 use Rattle.nova_pig_algebra.specs.declared.node.Sort.TheVariants.{Of, Condition}
+pub use Rattle.nova_pig_algebra.specs.Kinds.{same_kind}
 use Rattle.nova_pig_plan.specs.declared.fault.Cause.TheVariants as fault
 use Rattle.nova_pig_plan.specs.declared.scope.Col.{Col}
 use Rattle.nova_pig_plan.specs.declared.scope.Scope.{Scope}
@@ -25,12 +26,6 @@ use Rattle.nova_pig_plan.specs.Exprs.{group_name, expr_of}
 
 abbrev pub col : Kind → Option (List ℕ) → Option (List ℕ) → Col
 col k name origin = record { kind = k; name = name; origin = origin }
-
-abbrev pub same_kind : Kind → Kind → Bool
-same_kind kind.Long kind.Long = true
-same_kind kind.Text kind.Text = true
-same_kind kind.Long kind.Text = false
-same_kind kind.Text kind.Long = false
 
 abbrev pub unnamed : Col
 unnamed = col kind.Long None None

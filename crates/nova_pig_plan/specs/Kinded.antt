@@ -1,93 +1,13 @@
--- Plans whose nodes have kinds, by the plan alone: what evaluation rests on.
-use Rattle.std.specs.Prelude.{◌≡◌, ℕ, Bool, true, false, ◌&&◌, if◌then◌else◌, List, [], ◌∷◌, ◌++◌, map, length, Option, Some, None, Ok, Err, slice_get}
+-- Statements whose nodes have the kinds of their scopes.
+use Rattle.std.specs.Prelude.{◌≡◌, List, [], map, Some, Ok, Err, slice_get}
 use Rattle.nova_value.specs.declared.value.Kind.{Kind}
-use Rattle.nova_pig_tree.specs.declared.statement.Op.{Op}
-use Rattle.nova_pig_algebra.specs.declared.node.PlanExpr.{PlanExpr}
-use Rattle.nova_pig_algebra.specs.declared.node.Node.{Node}
-use Rattle.nova_pig_algebra.specs.declared.node.Node.TheVariants as node
-use Rattle.nova_pig_algebra.specs.declared.node.Sort.{Sort}
-use Rattle.nova_pig_algebra.specs.declared.node.Sort.TheVariants.{Of, Condition}
 use Rattle.nova_pig_plan.specs.declared.scope.Defined.{Defined}
-use Rattle.nova_pig_plan.specs.declared.scope.Made.{Made}
 use Rattle.nova_pig_plan.specs.declared.scope.Channels.{Channels}
-use Rattle.nova_pig_plan.specs.declared.scope.Plan.{Plan}
+use Rattle.nova_pig_plan.specs.declared.scope.Graph.{Graph}
 use Rattle.nova_pig_plan.specs.Answers.{Answer}
-use Rattle.nova_pig_plan.specs.Exprs.{is_condition}
-use Rattle.nova_pig_plan.specs.Items.{same_kind}
 use Rattle.nova_pig_plan.specs.Plans.{Aliases}
-use Rattle.nova_pig_plan.specs.Sorts.{Over, Row, Bag, over, kinds, has, sort_of}
-
-abbrev pub with_kind : Option Sort → Option (List Kind) → Option (List Kind)
-with_kind (Some (Of k)) (Some ks) = Some (k ∷ ks)
-with_kind _ _ = None
-
-abbrev pub item_kinds : Over → List PlanExpr → Option (List Kind)
-item_kinds o [] = Some []
-item_kinds o (e ∷ es) = with_kind (sort_of o e) (item_kinds o es)
-
-abbrev pub and_kind : Option Kind → Option (List Kind) → Option (List Kind)
-and_kind (Some k) (Some ks) = Some (k ∷ ks)
-and_kind _ _ = None
-
-abbrev pub kinds_at : List Kind → List ℕ → Option (List Kind)
-kinds_at ks [] = Some []
-kinds_at ks (c ∷ cs) = and_kind (slice_get ks c) (kinds_at ks cs)
-
-abbrev pub as_rows : Option (List Kind) → Option Over
-as_rows (Some ks) = Some (Row ks)
-as_rows None = None
-
-abbrev pub as_bag : List Kind → Option (List Kind) → Option Over
-as_bag ks (Some by) = Some (Bag by ks)
-as_bag ks None = None
-
-abbrev pub filter_over : PlanExpr → Option Over → Option Over
-filter_over cond (Some (Row ks)) = if has is_condition (sort_of (Row ks) cond) then Some (Row ks) else None
-filter_over cond _ = None
-
-abbrev pub foreach_over : List PlanExpr → Option Over → Option Over
-foreach_over items (Some o) = as_rows (item_kinds o items)
-foreach_over items None = None
-
-abbrev pub group_over : List ℕ → Option Over → Option Over
-group_over by (Some (Row ks)) = as_bag ks (kinds_at ks by)
-group_over by _ = None
-
-abbrev pub distinct_over : Option Over → Option Over
-distinct_over (Some (Row ks)) = Some (Row ks)
-distinct_over _ = None
-
-abbrev pub same_list : Option (List Kind) → Option (List Kind) → Bool
-same_list (Some []) (Some []) = true
-same_list (Some (k ∷ ks)) (Some (j ∷ js)) = same_kind k j && same_list (Some ks) (Some js)
-same_list _ _ = false
-
-abbrev pub join_over : List ℕ → List ℕ → Option Over → Option Over → Option Over
-join_over lb rb (Some (Row ks)) (Some (Row js)) = if same_list (kinds_at ks lb) (kinds_at js rb) then Some (Row (ks ++ js)) else None
-join_over lb rb _ _ = None
-
-abbrev pub are_rows : List Kind → Option Over → Bool
-are_rows ks (Some (Row js)) = same_list (Some ks) (Some js)
-are_rows ks _ = false
-
-abbrev pub all_rows : List Over → List Kind → List ℕ → Bool
-all_rows done ks [] = true
-all_rows done ks (a ∷ arms) = are_rows ks (slice_get done a) && all_rows done ks arms
-
-abbrev pub union_over : List Over → List ℕ → Option Over → Option Over
-union_over done arms (Some (Row ks)) = if all_rows done ks arms then Some (Row ks) else None
-union_over done arms _ = None
-
--- what a node gives, of the kinds of the inputs and of the earlier nodes
-abbrev pub node_over : List (List Kind) → List Over → Node → Option Over
-node_over inputs done (node.Load i) = as_rows (slice_get inputs i)
-node_over inputs done (node.Filter from cond) = filter_over cond (slice_get done from)
-node_over inputs done (node.Foreach from items) = foreach_over items (slice_get done from)
-node_over inputs done (node.Group from by) = group_over by (slice_get done from)
-node_over inputs done (node.Join l lb r rb) = join_over lb rb (slice_get done l) (slice_get done r)
-node_over inputs done (node.Union []) = Some (Row [])
-node_over inputs done (node.Union (a ∷ arms)) = union_over done (a ∷ arms) (slice_get done a)
-node_over inputs done (node.Distinct from) = distinct_over (slice_get done from)
+use Rattle.nova_pig_plan.specs.Sorts.{Over, Row, over}
+pub use Rattle.nova_pig_algebra.specs.Kinds.{with_kind, item_kinds, and_kind, kinds_at, as_rows, as_bag, filter_over, foreach_over, group_over, distinct_over, same_list, join_over, are_rows, all_rows, union_over, node_over, and_then, nodes_over}
 
 abbrev pub overs : Aliases → List Over
 overs done = map (λ e. over e.1) done
@@ -100,20 +20,11 @@ abbrev pub Kinded : Channels → Aliases → Answer Defined → Type 0
 Kinded ch done (Ok d) = node_over (input_kinds ch) (overs done) d.node ≡ Some (over d.scope)
 Kinded ch done (Err c) = Unit {0}
 
-abbrev pub and_then : {A B : Type 0} → Option A → (A → Option B) → Option B
-and_then (Some x) next = next x
-and_then None next = None
-
--- what the nodes give from the left, where each has kinds
-abbrev pub nodes_over : List (List Kind) → List Over → List Node → Option (List Over)
-nodes_over inputs done [] = Some done
-nodes_over inputs done (n ∷ nodes) = and_then (node_over inputs done n) (λ o. nodes_over inputs (done ++ o ∷ []) nodes)
-
 abbrev pub output_over : Channels → Over
 output_over ch = Row (map (λ c. c.kind) ch.output.1.columns)
 
 -- each node has kinds, and the stored one those of the output
-pub record IsKinded (ch : Channels) (p : Plan) : Type 0 where
+pub record IsKinded (ch : Channels) (p : Graph) : Type 0 where
   pub all : List Over
   pub nodes : nodes_over (input_kinds ch) [] p.nodes ≡ Some all
   pub stored : slice_get all p.stored ≡ Some (output_over ch)

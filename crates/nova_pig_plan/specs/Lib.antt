@@ -6,3 +6,4 @@ pub mod Items
 pub mod Plans
 pub mod Sorts
 pub mod Kinded
+pub mod Resolve

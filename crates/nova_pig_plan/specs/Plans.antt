@@ -17,14 +17,14 @@ use Rattle.nova_pig_plan.specs.declared.fault.Cause.{Cause}
 use Rattle.nova_pig_plan.specs.declared.fault.Cause.TheVariants as fault
 use Rattle.nova_pig_plan.specs.declared.fault.Stop.{Stop}
 use Rattle.nova_pig_plan.specs.declared.fault.Stop.TheVariants.{Fault, NoMemory}
-use Rattle.nova_pig_plan.specs.declared.fault.PlanFault.{PlanFault}
-use Rattle.nova_pig_plan.specs.declared.fault.PlanFault.TheVariants as stop
+use Rattle.nova_pig_plan.specs.declared.fault.FaultAt.{FaultAt}
+use Rattle.nova_pig_plan.specs.declared.fault.FaultAt.TheVariants as stop
 use Rattle.nova_pig_plan.specs.declared.scope.Col.{Col}
 use Rattle.nova_pig_plan.specs.declared.scope.Scope.{Scope}
 use Rattle.nova_pig_plan.specs.declared.scope.Scope.TheVariants.{Rows, Group}
 use Rattle.nova_pig_plan.specs.declared.scope.Defined.{Defined}
 use Rattle.nova_pig_plan.specs.declared.scope.Channels.{Channels}
-use Rattle.nova_pig_plan.specs.declared.scope.Plan.{Plan}
+use Rattle.nova_pig_plan.specs.declared.scope.Graph.{Graph}
 use Rattle.nova_pig_plan.specs.Answers.{Answer, first, if_not}
 use Rattle.nova_pig_plan.specs.Columns.{same_text, field_of}
 use Rattle.nova_pig_plan.specs.Exprs.{is_condition, expr_of}
@@ -170,8 +170,8 @@ abbrev pub at_statement : {A B : Type 0} → ℕ → Answer A → (A → Result 
 at_statement n (Ok x) next = next x
 at_statement n (Err c) next = Err (c, n)
 
-abbrev pub plan : List Node → ℕ → Plan
-plan nodes k = record { nodes = nodes; stored = k }
+abbrev pub graph : List Node → ℕ → Graph
+graph nodes k = record { nodes = nodes; stored = k }
 
 -- the aliases and the nodes so far
 abbrev pub State : Type 0
@@ -182,23 +182,23 @@ abbrev pub and_defined : Aliases → List Node → List ℕ → Defined → Answ
 and_defined done nodes alias d = Ok (done ++ (alias, d.scope) ∷ [], nodes ++ d.node ∷ [])
 
 -- a statement with the number n, after these aliases and nodes, and what follows it
-abbrev pub statement_of : Channels → ℕ → Aliases → List Node → Body → (Aliases → List Node → Result Plan (Cause × ℕ)) → Result Plan (Cause × ℕ)
+abbrev pub statement_of : Channels → ℕ → Aliases → List Node → Body → (Aliases → List Node → Result Graph (Cause × ℕ)) → Result Graph (Cause × ℕ)
 statement_of ch n done nodes (body.Define alias o) go_on = at_statement n (define ch done alias o) (λ d. go_on (done ++ (alias, d.scope) ∷ []) (nodes ++ d.node ∷ []))
-statement_of ch n done nodes (body.Store alias channel) go_on = at_statement n (store ch done alias channel) (λ k. Ok (plan nodes k))
+statement_of ch n done nodes (body.Store alias channel) go_on = at_statement n (store ch done alias channel) (λ k. Ok (graph nodes k))
 
 -- the statements from number n on. NoStore: there is no STORE; the statement is one past the last
-abbrev pub plan_after : Channels → ℕ → Aliases → List Node → List Statement → Result Plan (Cause × ℕ)
-plan_after ch n done nodes [] = Err (fault.NoStore, n)
-plan_after ch n done nodes (s ∷ rest) = statement_of ch n done nodes s.body (λ more all. plan_after ch (suc n) more all rest)
+abbrev pub graph_after : Channels → ℕ → Aliases → List Node → List Statement → Result Graph (Cause × ℕ)
+graph_after ch n done nodes [] = Err (fault.NoStore, n)
+graph_after ch n done nodes (s ∷ rest) = statement_of ch n done nodes s.body (λ more all. graph_after ch (suc n) more all rest)
 
-abbrev pub plan_of : List Statement → Channels → Result Plan (Cause × ℕ)
-plan_of statements ch = plan_after ch 1 [] [] statements
+abbrev pub graph_of : List Statement → Channels → Result Graph (Cause × ℕ)
+graph_of statements ch = graph_after ch 1 [] [] statements
 
-abbrev pub placed : Stop → ℕ → PlanFault
+abbrev pub placed : Stop → ℕ → FaultAt
 placed (Fault c) n = stop.At c n
 placed NoMemory n = stop.NoMemory
 
-abbrev pub GivesPlan : Result Plan PlanFault → Result Plan (Cause × ℕ) → Type 0
-GivesPlan (Ok p) answer = answer ≡ Ok p
-GivesPlan (Err (stop.At c n)) answer = answer ≡ Err (c, n)
-GivesPlan (Err stop.NoMemory) answer = Unit {0}
+abbrev pub GivesGraph : Result Graph FaultAt → Result Graph (Cause × ℕ) → Type 0
+GivesGraph (Ok p) answer = answer ≡ Ok p
+GivesGraph (Err (stop.At c n)) answer = answer ≡ Err (c, n)
+GivesGraph (Err stop.NoMemory) answer = Unit {0}

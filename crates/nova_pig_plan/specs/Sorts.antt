@@ -1,103 +1,21 @@
--- The kinds of plans by themselves: what evaluation rests on.
-use Rattle.std.specs.Prelude.{◌≡◌, ℕ, Bool, true, false, ◌&&◌, List, [], ◌∷◌, map, Option, Some, None, Result, Ok, Err, slice_get}
+-- The kinds of scopes, and of answered expressions.
+use Rattle.std.specs.Prelude.{◌≡◌, List, map, Some, Ok, Err}
 use Rattle.nova_value.specs.declared.value.Kind.{Kind}
-use Rattle.nova_value.specs.declared.value.Kind.TheVariants as kind
-use Rattle.nova_pig_tree.specs.declared.expression.CallKind.{CallKind}
-use Rattle.nova_pig_tree.specs.declared.expression.CallKind.TheVariants as call
-use Rattle.nova_pig_algebra.specs.declared.node.PlanExpr.{PlanExpr}
-use Rattle.nova_pig_algebra.specs.declared.node.PlanExpr.TheOpen.{PlanExpr-F}
-use Rattle.nova_pig_algebra.specs.declared.node.PlanExpr.TheFolds.{fold-PlanExpr}
-use Rattle.nova_pig_algebra.specs.declared.node.Sort.{Sort}
-use Rattle.nova_pig_algebra.specs.declared.node.Sort.TheVariants.{Of, Condition}
 use Rattle.nova_pig_plan.specs.declared.scope.Col.{Col}
 use Rattle.nova_pig_plan.specs.declared.scope.Scope.{Scope}
 use Rattle.nova_pig_plan.specs.declared.scope.Scope.TheVariants.{Rows, Group}
 use Rattle.nova_pig_plan.specs.declared.scope.Typed.{Typed}
 use Rattle.nova_pig_plan.specs.Answers.{Answer}
-use Rattle.nova_pig_plan.specs.Exprs.{long, is_long, is_condition, are_alike}
-
--- what an expression stands over: rows of these kinds; or groups of these BY kinds, of rows of these kinds
-pub data Over : Type 0 where
-  Row : List Kind → Over
-  Bag : List Kind → List Kind → Over
+pub use Rattle.nova_pig_algebra.specs.Sorts.{Over, Row, Bag, of_kind, when, has, are, chosen, col_sort, group_sort, column_agg, bag_agg, agg_sort, long_sort, condition_sort, sort_step}
+unfoldable pub use Rattle.nova_pig_algebra.specs.Sorts.{sort_of}
 
 abbrev pub kinds : List Col → List Kind
 kinds cs = map (λ c. c.kind) cs
 
+-- what an expression in this scope stands over
 abbrev pub over : Scope → Over
 over (Rows cs) = Row (kinds cs)
 over (Group bag by cs) = Bag (kinds by) (kinds cs)
-
-abbrev pub of_kind : Option Kind → Option Sort
-of_kind None = None
-of_kind (Some k) = Some (Of k)
-
-abbrev pub when : Bool → Sort → Option Sort
-when true s = Some s
-when false s = None
-
-abbrev pub has : (Sort → Bool) → Option Sort → Bool
-has test None = false
-has test (Some s) = test s
-
-abbrev pub are : (Sort → Sort → Bool) → Option Sort → Option Sort → Bool
-are test None o = false
-are test (Some s) None = false
-are test (Some s) (Some r) = test s r
-
-abbrev pub chosen : Bool → Option Sort → Option Sort
-chosen true o = o
-chosen false o = None
-
-abbrev pub col_sort : Over → ℕ → Option Sort
-col_sort (Row ks) k = of_kind (slice_get ks k)
-col_sort (Bag by ks) k = None
-
-abbrev pub group_sort : Over → ℕ → Option Sort
-group_sort (Row ks) k = None
-group_sort (Bag by ks) k = of_kind (slice_get by k)
-
-abbrev pub column_agg : CallKind → Option Kind → Option Sort
-column_agg c None = None
-column_agg call.Count (Some k) = Some long
-column_agg call.Sum (Some kind.Long) = Some long
-column_agg call.Sum (Some kind.Text) = None
-column_agg call.Min (Some k) = Some (Of k)
-column_agg call.Max (Some k) = Some (Of k)
-
-abbrev pub bag_agg : CallKind → Option Sort
-bag_agg call.Count = Some long
-bag_agg _ = None
-
-abbrev pub agg_sort : Over → CallKind → Option ℕ → Option Sort
-agg_sort (Row ks) c o = None
-agg_sort (Bag by ks) c None = bag_agg c
-agg_sort (Bag by ks) c (Some k) = column_agg c (slice_get ks k)
-
-abbrev pub long_sort : Option Sort → Option Sort → Option Sort
-long_sort a b = when (has is_long a && has is_long b) long
-
-abbrev pub condition_sort : Option Sort → Option Sort → Option Sort
-condition_sort a b = when (has is_condition a && has is_condition b) Condition
-
-abbrev pub sort_step : Over → PlanExpr-F (Option Sort) → Option Sort
-sort_step o (PlanExpr-F.Num n) = Some long
-sort_step o (PlanExpr-F.Lit t) = Some (Of kind.Text)
-sort_step o (PlanExpr-F.Col k) = col_sort o k
-sort_step o (PlanExpr-F.GroupCol k) = group_sort o k
-sort_step o (PlanExpr-F.Agg c column) = agg_sort o c column
-sort_step o (PlanExpr-F.Neg a) = when (has is_long a) long
-sort_step o (PlanExpr-F.Add a b) = long_sort a b
-sort_step o (PlanExpr-F.Sub a b) = long_sort a b
-sort_step o (PlanExpr-F.Mul a b) = long_sort a b
-sort_step o (PlanExpr-F.Compare op a b) = when (are are_alike a b) Condition
-sort_step o (PlanExpr-F.And a b) = condition_sort a b
-sort_step o (PlanExpr-F.Or a b) = condition_sort a b
-sort_step o (PlanExpr-F.Not a) = when (has is_condition a) Condition
-sort_step o (PlanExpr-F.If c a b) = chosen (has is_condition c && are are_alike a b) a
-
-unfoldable pub sort_of : Over → PlanExpr → Option Sort
-sort_of o = fold-PlanExpr (Option Sort) (sort_step o)
 
 -- an answer has the sort that it says
 abbrev pub Sorted : Over → Answer Typed → Type 0

@@ -45,16 +45,16 @@ pub struct Defined {
     pub scope: Scope,
 }
 
-/// The channels of a task.
+/// The channels of a task: each with its name and its schema, the inputs in the order of the task.
 #[derive(Drop)]
 pub struct Channels {
     pub inputs: Items<(Name, Schema)>,
     pub output: (Name, Schema),
 }
 
-/// A plan.
+/// Nodes, and the number of the stored one.
 #[derive(Drop)]
-pub struct Plan {
+pub struct Graph {
     pub nodes: Items<Node>,
     pub stored: u32,
 }

@@ -2,15 +2,15 @@
 ghost use Rattle.std.specs.Prelude.{◌≡◌, List, None, Ok, OnOk};
 ghost use Rattle.nova_pig_tree.specs.declared.statement.Statement.{Statement};
 ghost use Rattle.nova_pig_plan.specs.declared.scope.Channels.{Channels};
-ghost use Rattle.nova_pig_plan.specs.declared.scope.Plan.{Plan};
+ghost use Rattle.nova_pig_plan.specs.declared.scope.Graph.{Graph};
 ghost use Rattle.nova_pig_plan.specs.Kinded.{IsKinded};
 ghost use Rattle.nova_pig_plan.specs.Answers.{Gives, GivesBy, first};
 ghost use Rattle.nova_pig_plan.specs.Plans as spec;
 
 use crate::aliases::Aliases;
-use crate::fault::{Cause, PlanFault, Stop};
+use crate::fault::{Cause, FaultAt, Stop};
 use crate::joins::{join, load, store, union};
-use crate::scope::{Channels, Defined, Plan};
+use crate::scope::{Channels, Defined, Graph};
 use crate::statements::{distinct, filter_rows, foreach, group};
 use nova_pig_algebra::Node;
 use nova_pig_tree::{Body, Op, Statement};
@@ -77,18 +77,22 @@ fn add<'a>(
 }
 
 /// The fault of the statement with this number.
-fn at_statement(stop: Stop, statement: u64) -> PlanFault
+fn at_statement(stop: Stop, statement: u64) -> FaultAt
     ensures { result ≡ spec.placed stop statement }
 {
     match stop {
-        Stop::Fault(cause) => PlanFault::At { cause, statement },
-        Stop::NoMemory => PlanFault::NoMemory,
+        Stop::Fault(cause) => FaultAt::At { cause, statement },
+        Stop::NoMemory => FaultAt::NoMemory,
     }
 }
 
-/// The plan of the statements, or the first fault.
-pub fn resolve(alloc: Global, script: &[Statement], channels: &Channels) -> Result<Plan, PlanFault>
-    ensures { spec.GivesPlan result (spec.plan_of script.now channels.now) }
+/// The nodes of the statements, or the first fault.
+pub(crate) fn resolve_nodes(
+    alloc: Global,
+    script: &[Statement],
+    channels: &Channels,
+) -> Result<Graph, FaultAt>
+    ensures { spec.GivesGraph result (spec.graph_of script.now channels.now) }
 {
     let mut done = Aliases::new(alloc);
     let mut nodes = Items::new(alloc);
@@ -103,19 +107,19 @@ pub fn resolve(alloc: Global, script: &[Statement], channels: &Channels) -> Resu
             }
             Body::Store { alias, channel } => {
                 return match store(alloc, channels, &done, alias.bytes(), channel.bytes()) {
-                    Ok(stored) => Ok(Plan { nodes, stored }),
+                    Ok(stored) => Ok(Graph { nodes, stored }),
                     Err(stop) => Err(at_statement(stop, number)),
                 };
             }
         }
     }
-    Err(PlanFault::At {
+    Err(FaultAt::At {
         cause: Cause::NoStore,
         statement: script.len() as u64 + 1,
     })
 }
 
-/// A plan that is answered has kinds.
-pub fn plans_have_kinds()
-    ensures { (ss : List Statement) (ch : Channels) (p : Plan) → spec.plan_of ss ch ≡ Ok p → IsKinded ch p }
+/// Nodes that are answered have kinds.
+pub(crate) fn graphs_have_kinds()
+    ensures { (ss : List Statement) (ch : Channels) (g : Graph) → spec.graph_of ss ch ≡ Ok g → IsKinded ch g }
 {}

@@ -1,6 +1,0 @@
-use Rattle.std.proofs.Common.{◌≡◌, ◌+◌, drop}
-use Rattle.nova_pig_plan.specs.Plans as spec
-use Rattle.nova_pig_plan.proofs.script.resolve.Given as goal
-
-abbrev pub invariant-loop-at : goal.invariant-loop-at
-invariant-loop-at l = spec.plan_of l.script l.channels ≡ spec.plan_after l.channels (l.at + 1) l.done l.nodes (drop l.at l.script)

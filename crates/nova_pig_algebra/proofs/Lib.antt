@@ -4,3 +4,6 @@ pub mod Values
 pub mod Items
 pub mod Rising
 pub mod Keyed
+pub mod Even
+pub mod Apart
+pub mod Agree

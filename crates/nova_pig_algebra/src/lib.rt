@@ -1,6 +1,12 @@
-//! Plans and their meaning.
+//! The operators of a plan: nodes and expressions, what they mean, and their keys.
+//!
+//! A plan is a list of nodes, each of which names earlier ones, with a stored node; it means the
+//! list of rows of that node. A node's key is a set of columns at which no two of its rows are
+//! equal.
 #![tactic(auto)]
 
+mod laws;
 mod node;
 
+pub use laws::{expressions_depend_on_their_calls, keys_tell_rows_apart};
 pub use node::{Node, PlanExpr, Sort};

@@ -11,7 +11,8 @@ use Rattle.nova_pig_algebra.specs.declared.node.Sort.TheVariants.{Of, Condition}
 use Rattle.nova_pig_algebra.specs.Tree.{Tree, Nothing, Load, Filter, Foreach, Grouped, Join, Union, Distinct, Arms, End, Arm, tree_at, arms_at, foreach_tree, tree_of, trees_after, trees}
 use Rattle.nova_pig_algebra.specs.Sorts.{Over, Row, Bag, has, is_condition, sort_of}
 use Rattle.nova_pig_algebra.specs.Kinds.{same_kind, with_kind, item_kinds, kinds_at, as_rows, as_bag, filter_over, foreach_over, group_over, distinct_over, same_list, join_over, are_rows, all_rows, union_over, node_over, and_then, nodes_over}
-use Rattle.nova_pig_algebra.specs.Keys.{Facts, facts, arm_facts, shape_at, none_constant, unknown}
+use Rattle.nova_pig_algebra.specs.declared.facts.Facts.{Facts}
+use Rattle.nova_pig_algebra.specs.Keys.{facts, arm_facts, shape_at, none_constant, unknowns}
 use Rattle.nova_pig_algebra.specs.Plan.{Plan, IsKinded, kinds_of_inputs, tree_of_plan}
 use Rattle.nova_pig_algebra.proofs.Sets.{both_true}
 use Rattle.nova_pig_algebra.proofs.Keyed.{IsEven, AreEven, AreWide}
@@ -19,6 +20,10 @@ use Rattle.nova_pig_algebra.proofs.Keyed.{IsEven, AreEven, AreWide}
 mapped_length : {A B : Type 0} (f : A → B) (xs : List A) → length (map f xs) ≡ length xs
 mapped_length f [] = refl
 mapped_length f (x ∷ xs) = let rest = mapped_length f xs in omega arith
+
+unknown_count : (n : ℕ) → length (unknowns n) ≡ n
+unknown_count zero = refl
+unknown_count (suc n) = let rest = unknown_count n in omega arith
 
 item_count : (o : Over) (items : List PlanExpr) (ks : List Kind) → item_kinds o items ≡ Some ks → length items ≡ length ks
 item_count o [] ks e = let is : [] ≡ ks = cc in ap length is
@@ -143,7 +148,7 @@ module _ (inputs : List Shape) where
   load_width [] i ks e = absurd cc
   load_width (s ∷ shapes) zero ks e =
       let is : kinds s.columns ≡ ks = cc in
-      mapped_length (λ _. unknown) s.columns ∙ sym (mapped_length (λ c. c.kind) s.columns) ∙ ap length is
+      unknown_count (length s.columns) ∙ sym (mapped_length (λ c. c.kind) s.columns) ∙ ap length is
   load_width (s ∷ shapes) (suc i) ks e = load_width shapes i ks e
 
   load_wide : (i : ℕ) (x : Option (List Kind)) (o : Over) → slice_get (kinds_of_inputs inputs) i ≡ x → as_rows x ≡ Some o → Wide (Load i) o
@@ -171,7 +176,7 @@ module _ (inputs : List Shape) where
     foreach_even from items (Some (node.Load i)) ks e = record { even = s.even from; wide = mapped_length _ items ∙ e }
     foreach_even from items (Some (node.Filter f c)) ks e = record { even = s.even from; wide = mapped_length _ items ∙ e }
     foreach_even from items (Some (node.Foreach f is)) ks e = record { even = s.even from; wide = mapped_length _ items ∙ e }
-    foreach_even from items (Some (node.Group source columns)) ks e = record { even = s.even source; wide = mapped_length _ items ∙ e }
+    foreach_even from items (Some (node.Group source columns)) ks e = record { even = s.even source; wide = unknown_count (length items) ∙ e }
     foreach_even from items (Some (node.Join l lb r rb)) ks e = record { even = s.even from; wide = mapped_length _ items ∙ e }
     foreach_even from items (Some (node.Union arms)) ks e = record { even = s.even from; wide = mapped_length _ items ∙ e }
     foreach_even from items (Some (node.Distinct f)) ks e = record { even = s.even from; wide = mapped_length _ items ∙ e }
@@ -204,7 +209,7 @@ module _ (inputs : List Shape) where
         let t = Union (Arm (tree_at done a) (arms_at done arms)) in
         subst (λ z. Next t z) (sym p.is) (record {
           even = ((s.even a, arms_even arms), subst (λ n. AreWide n (arm_facts inputs (arms_at done arms))) (sym w) (arms_wide p.kinds_of arms q.1));
-          wide = mapped_length (λ _. unknown) (facts inputs (tree_at done a)).constants ∙ w
+          wide = unknown_count (length (facts inputs (tree_at done a)).constants) ∙ w
         })
     node_even nodes (node.Distinct from) o e =
         record { even = s.even from; wide = wide_same (tree_at done from) (Distinct (tree_at done from)) o refl (s.wide from o (distinct_from (slice_get overs from) o e)) }

@@ -1,5 +1,5 @@
 -- Plain items: what a FOREACH keeps of columns and of constants.
-use Rattle.std.specs.Prelude.{◌≡◌, ◌⊎◌, ℕ, zero, suc, ◌==◌, Bool, true, false, if◌then◌else◌, List, [], ◌∷◌, map, length, slice_get, Option, Some, None, refl}
+use Rattle.std.specs.Prelude.{◌≡◌, ◌⊎◌, ℕ, zero, suc, ◌+◌, ◌==◌, Bool, true, false, if◌then◌else◌, List, [], ◌∷◌, map, length, slice_get, Option, Some, None, refl}
 use Rattle.std.proofs.Common.{ap, sym, ◌∙◌, inl, inr, subst, eqb-true, arith}
 use Rattle.nova_value.specs.declared.value.Value.{Value}
 use Rattle.nova_value.specs.declared.value.Value.TheVariants.{Long, Text}
@@ -9,7 +9,7 @@ use Rattle.nova_pig_algebra.specs.declared.node.PlanExpr.TheOpen.{PlanExpr-F}
 use Rattle.nova_pig_algebra.specs.declared.node.PlanExpr.TheViews.{out-PlanExpr, roll-PlanExpr, roll-out-PlanExpr}
 use Rattle.nova_pig_algebra.specs.declared.node.PlanExpr.TheFolds.{fold-roll-PlanExpr}
 use Rattle.nova_pig_algebra.specs.Meaning.{Row, Calls, Given, given, given_step, value_of, made}
-use Rattle.nova_pig_algebra.specs.Keys.{with_column, Plain, Column, By, Constant, Computed, plain, plain_step, is_column, is_by, is_some, place_of, places_of, next_place, and_place, constant_at, item_constant}
+use Rattle.nova_pig_algebra.specs.Keys.{with_column, Plain, Column, By, Constant, Computed, plain, plain_step, is_column, is_by, is_some, place_from, place_of, places_of, and_place, constant_at, item_constant}
 use Rattle.nova_pig_algebra.specs.Statements.{In}
 use Rattle.nova_pig_algebra.proofs.Sets.{Agree, in_with, with_in}
 use Rattle.nova_pig_algebra.proofs.Values.{IsConstant, HasConstants, constant_is, key_value}
@@ -58,17 +58,23 @@ refers_by columns k x = go (plain x) (plain_gives x)
     go Computed g e row f = absurd cc
 
 -- the item at the place of the first that passes gives what each that passes gives
-pub place_gives : (test : Plain → Bool) (row : Row) (f : Calls) (v : Value) → ((x : PlanExpr) → test (plain x) ≡ true → value_of x row f ≡ v)
-    → (items : List PlanExpr) (p : ℕ) → place_of test items ≡ Some p → value_at (made items row f) p ≡ v
-place_gives test row f v ok [] p e = absurd cc
-place_gives test row f v ok (x ∷ items) p e = by_test (λ q is. place_gives test row f v ok items q is) (test (plain x)) refl e
+place_gives_from : (test : Plain → Bool) (row : Row) (f : Calls) (v : Value) → ((x : PlanExpr) → test (plain x) ≡ true → value_of x row f ≡ v)
+    → (n : ℕ) (items : List PlanExpr) (p : ℕ) → place_from test n items ≡ Some p → (j : ℕ) × (p ≡ n + j) × (value_at (made items row f) j ≡ v)
+place_gives_from test row f v ok n [] p e = absurd cc
+place_gives_from test row f v ok n (x ∷ items) p e = step (test (plain x)) refl e (place_gives_from test row f v ok (suc n) items p)
   where
-    by_next : ((q : ℕ) → place_of test items ≡ Some q → value_at (made items row f) q ≡ v) → (o : Option ℕ) → place_of test items ≡ o → next_place o ≡ Some p → value_at (made (x ∷ items) row f) p ≡ v
-    by_next r None is e = absurd cc
-    by_next r (Some q) is e = let p-is : suc q ≡ p = cc in subst (λ z. value_at (made (x ∷ items) row f) z ≡ v) p-is (r q is)
-    by_test : ((q : ℕ) → place_of test items ≡ Some q → value_at (made items row f) q ≡ v) → (b : Bool) → test (plain x) ≡ b → (if b then Some 0 else next_place (place_of test items)) ≡ Some p → value_at (made (x ∷ items) row f) p ≡ v
-    by_test r true is e = let p-is : 0 ≡ p = cc in subst (λ z. value_at (made (x ∷ items) row f) z ≡ v) p-is (ok x is)
-    by_test r false is e = by_next r (place_of test items) refl e
+    step : (b : Bool) → test (plain x) ≡ b → (if b then Some n else place_from test (suc n) items) ≡ Some p
+        → (place_from test (suc n) items ≡ Some p → (j : ℕ) × (p ≡ suc n + j) × (value_at (made items row f) j ≡ v))
+        → (j : ℕ) × (p ≡ n + j) × (value_at (made (x ∷ items) row f) j ≡ v)
+    step true is h go = let same : n ≡ p = cc in (0, omega (arith, same), ok x is)
+    step false is h go = let r = go h in (suc r.0, omega (arith, r.1), r.2)
+
+place_gives : (test : Plain → Bool) (row : Row) (f : Calls) (v : Value) → ((x : PlanExpr) → test (plain x) ≡ true → value_of x row f ≡ v)
+    → (items : List PlanExpr) (p : ℕ) → place_of test items ≡ Some p → value_at (made items row f) p ≡ v
+place_gives test row f v ok items p e =
+    let r = place_gives_from test row f v ok 0 items p e in
+    let at : r.0 ≡ p = omega (arith, r.1) in
+    subst (λ z. value_at (made items row f) z ≡ v) at r.2
 
 module _ (test : ℕ → Plain → Bool) (items : List PlanExpr) where
   abbrev IsBoth : ℕ → List ℕ → List ℕ → Type 0

@@ -9,7 +9,8 @@ use Rattle.nova_value.specs.Rows.{Shape, FitsRow, value_at, key_at}
 use Rattle.nova_pig_algebra.specs.declared.node.PlanExpr.{PlanExpr}
 use Rattle.nova_pig_algebra.specs.Meaning.{Row, Calls, same_row, value_of, holds, made, no_calls, calls_over}
 use Rattle.nova_pig_algebra.specs.Tree.{Tree, Nothing, Load, Filter, Foreach, Grouped, Join, Union, Distinct, Arms, End, Arm, rows, arm_rows, rows_at, rising, members, joined, distinct}
-use Rattle.nova_pig_algebra.specs.Keys.{Facts, with_column, column_set, covers, columns_from, is_column, is_by, plain, places_of, constant_at, none_constant, foreach_key, join_key, in_arms, all_other, are_apart, first_apart, has_key, all_have, and_column, union_key, union_facts, or_all, shape_at, facts, arm_facts}
+use Rattle.nova_pig_algebra.specs.declared.facts.Facts.{Facts}
+use Rattle.nova_pig_algebra.specs.Keys.{with_column, column_set, covers, columns_from, is_column, is_by, plain, places_of, constant_at, none_constant, foreach_key, join_key, in_arms, all_other, are_apart, first_apart, has_key, all_have, and_column, union_key, union_facts, or_all, shape_at, facts, arm_facts}
 use Rattle.nova_pig_algebra.specs.Statements.{In, Every, Apart, Keyed, AreRowsOf, AreTables}
 use Rattle.nova_pig_algebra.proofs.Lists.{in_either, in_filtered, in_mapped, in_flattened, apart_filter, apart_within, apart_append, apart_map, apart_flat}
 use Rattle.nova_pig_algebra.proofs.Sets.{with_in, set_in, same_set, same_itself, both_true, covered, in_columns, Agree, Unlike, agree_by, by_agree}

@@ -8,12 +8,8 @@ use Rattle.nova_value.specs.Order.{value_cmp}
 use Rattle.nova_value.specs.Rows.{Shape}
 use Rattle.nova_pig_algebra.specs.declared.node.PlanExpr.{PlanExpr, out-PlanExpr}
 use Rattle.nova_pig_algebra.specs.declared.node.PlanExpr.TheOpen.{PlanExpr-F}
+use Rattle.nova_pig_algebra.specs.declared.facts.Facts.{Facts}
 use Rattle.nova_pig_algebra.specs.Tree.{Tree, Nothing, Load, Filter, Foreach, Grouped, Join, Union, Distinct, Arms, End, Arm}
-
--- what is known of an alias: for each column the value that it has in every row, where it is constant; and the key, as a rising list
-pub record Facts : Type 0 where
-  pub constants : List (Option Value)
-  pub key : Option (List ℕ)
 
 abbrev pub facts_of : List (Option Value) → Option (List ℕ) → Facts
 facts_of constants key = record { constants = constants; key = key }
@@ -76,14 +72,13 @@ abbrev pub is_by : List ℕ → ℕ → Plain → Bool
 is_by columns k (By j) = is_some k (slice_get columns j)
 is_by columns k _ = false
 
-abbrev pub next_place : Option ℕ → Option ℕ
-next_place None = None
-next_place (Some p) = Some (suc p)
+-- the place of the first item that passes, counted from n
+abbrev pub place_from : (Plain → Bool) → ℕ → List PlanExpr → Option ℕ
+place_from test n [] = None
+place_from test n (e ∷ es) = if test (plain e) then Some n else place_from test (suc n) es
 
--- the place of the first item that passes
 abbrev pub place_of : (Plain → Bool) → List PlanExpr → Option ℕ
-place_of test [] = None
-place_of test (e ∷ es) = if test (plain e) then Some 0 else next_place (place_of test es)
+place_of test items = place_from test 0 items
 
 abbrev pub and_place : Option ℕ → Option (List ℕ) → Option (List ℕ)
 and_place None ps = None
@@ -107,9 +102,13 @@ item_constant constants (Column k) = constant_at constants k
 item_constant constants (Constant v) = Some v
 item_constant constants _ = None
 
+abbrev pub unknowns : ℕ → List (Option Value)
+unknowns zero = []
+unknowns (suc n) = unknown ∷ unknowns n
+
 -- no column is constant
 abbrev pub none_constant : {A : Type 0} → List A → List (Option Value)
-none_constant xs = map (λ _. unknown) xs
+none_constant xs = unknowns (length xs)
 
 -- ---- keys of the operators
 abbrev pub load_facts : Shape → Facts

@@ -5,8 +5,10 @@
 //! equal.
 #![tactic(auto)]
 
+mod facts;
 mod laws;
 mod node;
 
+pub use facts::Facts;
 pub use laws::{expressions_depend_on_their_calls, keys_tell_rows_apart};
 pub use node::{Node, PlanExpr, Sort};

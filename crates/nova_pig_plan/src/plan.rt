@@ -1,12 +1,14 @@
 //! Plans.
 ghost use Rattle.std.specs.Prelude.{◌≡◌, IfOk};
-ghost use Rattle.nova_pig_algebra.specs.Plan.{IsKinded};
+ghost use Rattle.std.specs.Option.{option_map};
+ghost use Rattle.nova_pig_algebra.specs.Plan.{IsKinded, plan_key};
 ghost use Rattle.nova_pig_plan.specs.Resolve as spec;
 
 use crate::fault::{Cause, FaultAt, PlanFault};
 use crate::scope::{Channels, Graph};
 use crate::script::resolve_nodes;
 use nova_pig_algebra::Node;
+use nova_pig_key::key_of_nodes;
 use nova_pig_tree::Script;
 use nova_value::{Name, Schema};
 use sqlite_items::Items;
@@ -20,10 +22,12 @@ pub struct Plan {
     graph: Graph,
     inputs: Items<Schema>,
     output: Schema,
+    key: Option<Items<u32>>,
 }
 
 impl Model for Plan {
-    ghost use Rattle.nova_pig_algebra.specs.Plan.{Plan as P, IsKinded};
+    ghost use Rattle.nova_pig_algebra.specs.Plan.{Plan as P, IsKinded, plan_key};
+    ghost use Rattle.std.specs.Prelude.{◌≡◌};
     ghost use Rattle.nova_pig_algebra.specs.Codes.{plan_code};
 
     ghost Value = { P };
@@ -32,7 +36,7 @@ impl Model for Plan {
 
     ghost view = { λ p. record { nodes = p.graph.nodes; stored = p.graph.stored; inputs = p.inputs; output = p.output } };
 
-    ghost invariant = { λ p. IsKinded (record { nodes = p.graph.nodes; stored = p.graph.stored; inputs = p.inputs; output = p.output }) };
+    ghost invariant = { λ p. IsKinded (record { nodes = p.graph.nodes; stored = p.graph.stored; inputs = p.inputs; output = p.output }) × (p.key ≡ plan_key (record { nodes = p.graph.nodes; stored = p.graph.stored; inputs = p.inputs; output = p.output })) };
 }
 
 impl Plan {
@@ -63,6 +67,16 @@ impl Plan {
         ensures { result.now ≡ self.now.output }
     {
         &self.output
+    }
+
+    /// The key columns, rising, where the plan has a key: no two of its rows are equal at them.
+    pub fn key(&self) -> Option<&[u32]>
+        ensures { option_map (λ k. k.now) result ≡ plan_key self.now }
+    {
+        match &self.key {
+            Some(key) => Some(key.as_slice()),
+            None => None,
+        }
     }
 }
 
@@ -115,10 +129,17 @@ fn with_schemas(alloc: Global, graph: Graph, channels: &Channels) -> Result<Plan
 {
     let inputs = schemas_of(alloc, channels.inputs.as_slice())?;
     let output = channels.output.1.copy(alloc)?;
+    let key = key_of_nodes(
+        alloc,
+        inputs.as_slice(),
+        graph.nodes.as_slice(),
+        graph.stored,
+    )?;
     Ok(Plan {
         graph,
         inputs,
         output,
+        key,
     })
 }
 

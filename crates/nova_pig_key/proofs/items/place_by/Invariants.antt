@@ -1,0 +1,7 @@
+use Rattle.std.proofs.Common.{◌≡◌, ◌++◌, ◌+◌, ◌-◌, take, drop, map, List, ℕ}
+use Rattle.nova_pig_algebra.specs.Keys as spec
+use Rattle.nova_pig_key.specs.Steps as step
+use Rattle.nova_pig_key.proofs.items.place_by.Given as goal
+
+abbrev pub invariant-loop-at : goal.invariant-loop-at
+invariant-loop-at l = spec.place_of (spec.is_by l.columns l.column) l.items ≡ spec.place_from (spec.is_by l.columns l.column) l.at (drop l.at l.items)

@@ -232,11 +232,11 @@ fn faults(rt: HostRuntime) -> Result<(), Fail> {
     }
     let speed = "a = LOAD 'raw'; b = FILTER a BY speed > 1; STORE b INTO 'out';";
     let found = show(rt.alloc(), speed, &channels)?;
-    assert_eq!(rt; found.as_slice(), b"unknown field 2", "the field speed");
+    assert_eq!(rt; found.as_slice(), "unknown field 2".as_bytes(), "the field speed");
     let found = show(rt.alloc(), "", &channels)?;
-    assert_eq!(rt; found.as_slice(), b"no store 1", "no statement");
+    assert_eq!(rt; found.as_slice(), "no store 1".as_bytes(), "no statement");
     let found = show(rt.alloc(), ";", &channels)?;
-    assert_eq!(rt; found.as_slice(), b"no script", "no script");
+    assert_eq!(rt; found.as_slice(), "no script".as_bytes(), "no script");
     Ok(())
 }
 

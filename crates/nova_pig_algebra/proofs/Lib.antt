@@ -7,3 +7,4 @@ pub mod Keyed
 pub mod Even
 pub mod Apart
 pub mod Agree
+pub mod Literal

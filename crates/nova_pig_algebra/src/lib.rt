@@ -7,8 +7,10 @@
 
 mod facts;
 mod laws;
+mod literals;
 mod node;
 
 pub use facts::Facts;
 pub use laws::{expressions_depend_on_their_calls, keys_tell_rows_apart};
+pub use literals::nodes_have_values;
 pub use node::{Node, PlanExpr, Sort};

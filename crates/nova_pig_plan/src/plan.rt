@@ -1,13 +1,13 @@
 //! Plans.
 ghost use Rattle.std.specs.Prelude.{◌≡◌, IfOk};
 ghost use Rattle.std.specs.Option.{option_map};
-ghost use Rattle.nova_pig_algebra.specs.Plan.{IsKinded, plan_key};
+ghost use Rattle.nova_pig_algebra.specs.Plan.{IsKinded, IsPlan, plan_key};
 ghost use Rattle.nova_pig_plan.specs.Resolve as spec;
 
 use crate::fault::{Cause, FaultAt, PlanFault};
 use crate::scope::{Channels, Graph};
 use crate::script::resolve_nodes;
-use nova_pig_algebra::Node;
+use nova_pig_algebra::{Node, nodes_have_values};
 use nova_pig_key::key_of_nodes;
 use nova_pig_tree::Script;
 use nova_value::{Name, Schema};
@@ -16,7 +16,7 @@ use std::alloc::{AllocError, Global};
 use std::marker::Model;
 
 /// A plan: nodes that name earlier nodes, the number of the stored one, and the schemas of the
-/// task's channels. Its references are in range and its kinds are right.
+/// task's channels. Its references are in range, its kinds are right, and its literals are values.
 #[derive(Drop)]
 pub struct Plan {
     graph: Graph,
@@ -26,7 +26,7 @@ pub struct Plan {
 }
 
 impl Model for Plan {
-    ghost use Rattle.nova_pig_algebra.specs.Plan.{Plan as P, IsKinded, plan_key};
+    ghost use Rattle.nova_pig_algebra.specs.Plan.{Plan as P, IsPlan, plan_key};
     ghost use Rattle.std.specs.Prelude.{◌≡◌};
     ghost use Rattle.nova_pig_algebra.specs.Codes.{plan_code};
 
@@ -36,14 +36,14 @@ impl Model for Plan {
 
     ghost view = { λ p. record { nodes = p.graph.nodes; stored = p.graph.stored; inputs = p.inputs; output = p.output } };
 
-    ghost invariant = { λ p. IsKinded (record { nodes = p.graph.nodes; stored = p.graph.stored; inputs = p.inputs; output = p.output }) × (p.key ≡ plan_key (record { nodes = p.graph.nodes; stored = p.graph.stored; inputs = p.inputs; output = p.output })) };
+    ghost invariant = { λ p. IsPlan (record { nodes = p.graph.nodes; stored = p.graph.stored; inputs = p.inputs; output = p.output }) × (p.key ≡ plan_key (record { nodes = p.graph.nodes; stored = p.graph.stored; inputs = p.inputs; output = p.output })) };
 }
 
 impl Plan {
     /// The nodes. A node's number is its place; each names earlier ones alone.
     pub fn nodes(&self) -> &[Node]
         ensures nodes { result.now ≡ self.now.nodes }
-        ensures kinds { IsKinded self.now }
+        ensures plan { IsPlan self.now }
     {
         self.graph.nodes.as_slice()
     }
@@ -129,6 +129,7 @@ fn with_schemas(alloc: Global, graph: Graph, channels: &Channels) -> Result<Plan
 {
     let inputs = schemas_of(alloc, channels.inputs.as_slice())?;
     let output = channels.output.1.copy(alloc)?;
+    nodes_have_values(graph.nodes.as_slice());
     let key = key_of_nodes(
         alloc,
         inputs.as_slice(),

@@ -150,7 +150,7 @@ const PLANS: [(&str, &str, &str, &str); 24] = [
         "operations",
         "LT",
         "r = LOAD 'raw'; o = FOREACH r GENERATE -(id - 2) * ms AS n: long, (NOT id == 1 AND url < 'b' OR ms != id ? url : 'c');",
-        "load 0; foreach 0, ((neg (#0 - 2)) * #2), (if (((not (#0 == 1)) and (#1 < 'b')) or (#2 != #0)))(#1 else 'c'); store 1; no key",
+        "load 0; foreach 0, ((neg (#0 - 2)) * #2), ((((not (#0 == 1)) and (#1 < 'b')) or (#2 != #0)) ? #1 : 'c'); store 1; no key",
     ),
     (
         "names after FLATTEN(group)",

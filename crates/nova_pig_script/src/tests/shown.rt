@@ -50,20 +50,6 @@ fn sign(op: CompareOp) -> &'static str {
     }
 }
 
-fn add_pair(alloc: Global, out: &mut Vec<u8>, a: &PlanExpr, sign: &str, b: &PlanExpr) -> Done {
-    add(out, "(")?;
-    add_expr(alloc, out, a)?;
-    add(out, sign)?;
-    add_expr(alloc, out, b)?;
-    add(out, ")")
-}
-
-fn add_one(alloc: Global, out: &mut Vec<u8>, sign: &str, a: &PlanExpr) -> Done {
-    add(out, sign)?;
-    add_expr(alloc, out, a)?;
-    add(out, ")")
-}
-
 fn add_expr(alloc: Global, out: &mut Vec<u8>, expr: &PlanExpr) -> Done {
     match expr {
         PlanExpr::Num(n) => add_number(alloc, out, *n),
@@ -77,17 +63,66 @@ fn add_expr(alloc: Global, out: &mut Vec<u8>, expr: &PlanExpr) -> Done {
             add_place(alloc, out, *k)
         }
         PlanExpr::Agg { kind, column } => add_call(alloc, out, *kind, *column),
-        PlanExpr::Add(a, b) => add_pair(alloc, out, a.get(), " + ", b.get()),
-        PlanExpr::Sub(a, b) => add_pair(alloc, out, a.get(), " - ", b.get()),
-        PlanExpr::Mul(a, b) => add_pair(alloc, out, a.get(), " * ", b.get()),
-        PlanExpr::And(a, b) => add_pair(alloc, out, a.get(), " and ", b.get()),
-        PlanExpr::Or(a, b) => add_pair(alloc, out, a.get(), " or ", b.get()),
-        PlanExpr::Compare { op, a, b } => add_pair(alloc, out, a.get(), sign(*op), b.get()),
-        PlanExpr::Neg(a) => add_one(alloc, out, "(neg ", a.get()),
-        PlanExpr::Not(a) => add_one(alloc, out, "(not ", a.get()),
+        PlanExpr::Add(a, b) => {
+            add(out, "(")?;
+            add_expr(alloc, out, a.get())?;
+            add(out, " + ")?;
+            add_expr(alloc, out, b.get())?;
+            add(out, ")")
+        }
+        PlanExpr::Sub(a, b) => {
+            add(out, "(")?;
+            add_expr(alloc, out, a.get())?;
+            add(out, " - ")?;
+            add_expr(alloc, out, b.get())?;
+            add(out, ")")
+        }
+        PlanExpr::Mul(a, b) => {
+            add(out, "(")?;
+            add_expr(alloc, out, a.get())?;
+            add(out, " * ")?;
+            add_expr(alloc, out, b.get())?;
+            add(out, ")")
+        }
+        PlanExpr::And(a, b) => {
+            add(out, "(")?;
+            add_expr(alloc, out, a.get())?;
+            add(out, " and ")?;
+            add_expr(alloc, out, b.get())?;
+            add(out, ")")
+        }
+        PlanExpr::Or(a, b) => {
+            add(out, "(")?;
+            add_expr(alloc, out, a.get())?;
+            add(out, " or ")?;
+            add_expr(alloc, out, b.get())?;
+            add(out, ")")
+        }
+        PlanExpr::Compare { op, a, b } => {
+            add(out, "(")?;
+            add_expr(alloc, out, a.get())?;
+            add(out, sign(*op))?;
+            add_expr(alloc, out, b.get())?;
+            add(out, ")")
+        }
+        PlanExpr::Neg(a) => {
+            add(out, "(neg ")?;
+            add_expr(alloc, out, a.get())?;
+            add(out, ")")
+        }
+        PlanExpr::Not(a) => {
+            add(out, "(not ")?;
+            add_expr(alloc, out, a.get())?;
+            add(out, ")")
+        }
         PlanExpr::If { cond, a, b } => {
-            add_one(alloc, out, "(if ", cond.get())?;
-            add_pair(alloc, out, a.get(), " else ", b.get())
+            add(out, "(")?;
+            add_expr(alloc, out, cond.get())?;
+            add(out, " ? ")?;
+            add_expr(alloc, out, a.get())?;
+            add(out, " : ")?;
+            add_expr(alloc, out, b.get())?;
+            add(out, ")")
         }
     }
 }

@@ -1,11 +1,10 @@
 -- An expression depends only on what the calls that stand in it give.
-use Rattle.std.proofs.Common.{◌≡◌, ℕ, ℤ, pos, ◌+ℤ◌, ◌-ℤ◌, ◌*ℤ◌, neg_ℤ, Bool, true, false, not, ◌&&◌, ◌||◌, if◌then◌else◌, List, [], ◌∷◌, ◌++◌, Option, Some, None, refl, ap, sym, subst, ◌∙◌}
+use Rattle.std.proofs.Common.{◌≡◌, ◌+ℤ◌, ◌-ℤ◌, ◌*ℤ◌, neg_ℤ, not, ◌&&◌, ◌||◌, if◌then◌else◌, List, [], ◌∷◌, ◌++◌, refl, sym, subst}
 use Rattle.std.specs.List.{AllByRecursion}
-use Rattle.nova_value.specs.declared.value.Value.{Value}
-use Rattle.nova_value.specs.declared.value.Value.TheVariants.{Long, Text}
+use Rattle.nova_value.specs.declared.value.Value.TheVariants.{Long}
 use Rattle.nova_pig_algebra.specs.declared.node.PlanExpr.{PlanExpr}
 use Rattle.nova_pig_algebra.specs.declared.node.PlanExpr.TheOpen.{PlanExpr-F}
-use Rattle.nova_pig_algebra.specs.declared.node.PlanExpr.TheFolds.{fold-PlanExpr, fold-roll-PlanExpr, ind-PlanExpr, map-PlanExpr}
+use Rattle.nova_pig_algebra.specs.declared.node.PlanExpr.TheFolds.{fold-roll-PlanExpr, ind-PlanExpr, map-PlanExpr}
 use Rattle.nova_pig_algebra.specs.declared.node.PlanExpr.TheViews.{roll-PlanExpr}
 use Rattle.nova_value.specs.Order.{value_cmp}
 use Rattle.nova_value.specs.Wrapped.{wrapped}

@@ -1,6 +1,5 @@
 -- The law on keys of plans.
-use Rattle.std.proofs.Common.{◌≡◌}
-use Rattle.nova_pig_algebra.specs.Plan.{Plan, tree_of_plan}
+use Rattle.nova_pig_algebra.specs.Plan.{tree_of_plan}
 use Rattle.nova_pig_algebra.specs.Statements.{KeysTellRowsApart}
 use Rattle.nova_pig_algebra.proofs.Keyed.{keyed_at}
 use Rattle.nova_pig_algebra.proofs.Even.{plan_even}

@@ -1,5 +1,5 @@
 -- In a plan whose nodes have kinds, the arms of each UNION have one width.
-use Rattle.std.specs.Prelude.{◌≡◌, ℕ, zero, suc, ◌+◌, Bool, true, false, ◌&&◌, if◌then◌else◌, List, [], ◌∷◌, ◌++◌, map, length, slice_get, Option, Some, None, refl}
+use Rattle.std.specs.Prelude.{◌≡◌, ℕ, zero, suc, ◌+◌, Bool, true, false, if◌then◌else◌, List, [], ◌∷◌, ◌++◌, map, length, slice_get, Option, Some, None, refl}
 use Rattle.std.proofs.Common.{ap, sym, ◌∙◌, subst, arith, length-append}
 use Rattle.nova_value.specs.declared.value.Kind.{Kind}
 use Rattle.nova_value.specs.Rows.{Shape, kinds}
@@ -8,10 +8,9 @@ use Rattle.nova_pig_algebra.specs.declared.node.Node.{Node}
 use Rattle.nova_pig_algebra.specs.declared.node.Node.TheVariants as node
 use Rattle.nova_pig_algebra.specs.declared.node.Sort.{Sort}
 use Rattle.nova_pig_algebra.specs.declared.node.Sort.TheVariants.{Of, Condition}
-use Rattle.nova_pig_algebra.specs.Tree.{Tree, Nothing, Load, Filter, Foreach, Grouped, Join, Union, Distinct, Arms, End, Arm, tree_at, arms_at, foreach_tree, tree_of, trees_after, trees}
+use Rattle.nova_pig_algebra.specs.Tree.{Tree, Nothing, Load, Filter, Join, Union, Distinct, End, Arm, tree_at, arms_at, foreach_tree, tree_of, trees_after}
 use Rattle.nova_pig_algebra.specs.Sorts.{Over, Row, Bag, has, is_condition, sort_of}
 use Rattle.nova_pig_algebra.specs.Kinds.{same_kind, with_kind, item_kinds, kinds_at, as_rows, as_bag, filter_over, foreach_over, group_over, distinct_over, same_list, join_over, are_rows, all_rows, union_over, node_over, and_then, nodes_over}
-use Rattle.nova_pig_algebra.specs.declared.facts.Facts.{Facts}
 use Rattle.nova_pig_algebra.specs.Keys.{facts, arm_facts, shape_at, none_constant, unknowns}
 use Rattle.nova_pig_algebra.specs.Plan.{Plan, IsKinded, kinds_of_inputs, tree_of_plan}
 use Rattle.nova_pig_algebra.proofs.Sets.{both_true}
@@ -197,7 +196,7 @@ module _ (inputs : List Shape) where
         let b = s.wide r (Row p.right) p.on_right in
         let t = Join (tree_at done l) lb (tree_at done r) rb in
         let w : length ((facts inputs (tree_at done l)).constants ++ (facts inputs (tree_at done r)).constants) ≡ length (p.left ++ p.right) =
-            length-append (facts inputs (tree_at done l)).constants (facts inputs (tree_at done r)).constants ∙ (λ i. a i + b i) ∙ sym (length-append p.left p.right) in
+        length-append (facts inputs (tree_at done l)).constants (facts inputs (tree_at done r)).constants ∙ (λ i. a i + b i) ∙ sym (length-append p.left p.right) in
         subst (λ z. Next t z) (sym p.is) (record { even = (s.even l, s.even r); wide = w })
     node_even nodes (node.Union []) o e =
         let is : Row [] ≡ o = cc in
@@ -209,7 +208,7 @@ module _ (inputs : List Shape) where
         let t = Union (Arm (tree_at done a) (arms_at done arms)) in
         subst (λ z. Next t z) (sym p.is) (record {
           even = ((s.even a, arms_even arms), subst (λ n. AreWide n (arm_facts inputs (arms_at done arms))) (sym w) (arms_wide p.kinds_of arms q.1));
-          wide = unknown_count (length (facts inputs (tree_at done a)).constants) ∙ w
+          wide = unknown_count (length (facts inputs (tree_at done a)).constants) ∙ w;
         })
     node_even nodes (node.Distinct from) o e =
         record { even = s.even from; wide = wide_same (tree_at done from) (Distinct (tree_at done from)) o refl (s.wide from o (distinct_from (slice_get overs from) o e)) }
@@ -218,7 +217,7 @@ module _ (inputs : List Shape) where
     one_more t o n = record {
       same = let a = s.same in let b = length-append done (t ∷ []) in let c = length-append overs (o ∷ []) in omega arith;
       even = push_all (λ z. IsEven inputs z) done t tt s.even n.even;
-      wide = push_wide done overs t o s.same s.wide n.wide
+      wide = push_wide done overs t o s.same s.wide n.wide;
     }
 
   all_sound : (nodes : List Node) (done : List Tree) (overs : List Over) → Sound done overs → (rest : List Node) (all : List Over)

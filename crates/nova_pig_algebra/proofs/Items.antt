@@ -1,8 +1,7 @@
 -- Plain items: what a FOREACH keeps of columns and of constants.
-use Rattle.std.specs.Prelude.{◌≡◌, ◌⊎◌, ℕ, zero, suc, ◌+◌, ◌==◌, Bool, true, false, if◌then◌else◌, List, [], ◌∷◌, map, length, slice_get, Option, Some, None, refl}
+use Rattle.std.specs.Prelude.{◌≡◌, ℕ, suc, ◌+◌, Bool, true, false, if◌then◌else◌, List, [], ◌∷◌, map, length, slice_get, Option, Some, None, refl}
 use Rattle.std.proofs.Common.{ap, sym, ◌∙◌, inl, inr, subst, eqb-true, arith}
 use Rattle.nova_value.specs.declared.value.Value.{Value}
-use Rattle.nova_value.specs.declared.value.Value.TheVariants.{Long, Text}
 use Rattle.nova_value.specs.Rows.{value_at, key_at}
 use Rattle.nova_pig_algebra.specs.declared.node.PlanExpr.{PlanExpr}
 use Rattle.nova_pig_algebra.specs.declared.node.PlanExpr.TheOpen.{PlanExpr-F}
@@ -11,7 +10,7 @@ use Rattle.nova_pig_algebra.specs.declared.node.PlanExpr.TheFolds.{fold-roll-Pla
 use Rattle.nova_pig_algebra.specs.Meaning.{Row, Calls, Given, given, given_step, value_of, made}
 use Rattle.nova_pig_algebra.specs.Keys.{with_column, Plain, Column, By, Constant, Computed, plain, plain_step, is_column, is_by, is_some, place_from, place_of, places_of, and_place, constant_at, item_constant}
 use Rattle.nova_pig_algebra.specs.Statements.{In}
-use Rattle.nova_pig_algebra.proofs.Sets.{Agree, in_with, with_in}
+use Rattle.nova_pig_algebra.proofs.Sets.{Agree, with_in}
 use Rattle.nova_pig_algebra.proofs.Values.{IsConstant, HasConstants, constant_is, key_value}
 
 -- what a plain item gives
@@ -27,6 +26,7 @@ plain_gives x = go (out-PlanExpr x) (sym (roll-out-PlanExpr x))
   where
     at_layer : (y : PlanExpr-F PlanExpr) → x ≡ roll-PlanExpr y → (row : Row) (f : Calls) → value_of x row f ≡ value_of (roll-PlanExpr y) row f
     at_layer y is row f = ap (λ e. value_of e row f) is
+
     go : (y : PlanExpr-F PlanExpr) → x ≡ roll-PlanExpr y → Gives (plain_step y) x
     go (PlanExpr-F.Col k) is = λ row f. at_layer (PlanExpr-F.Col k) is row f ∙ ap (λ (g : Given). g.value row f) (fold-roll-PlanExpr Given given_step (PlanExpr-F.Col k))
     go (PlanExpr-F.GroupCol k) is = λ row f. at_layer (PlanExpr-F.GroupCol k) is row f ∙ ap (λ (g : Given). g.value row f) (fold-roll-PlanExpr Given given_step (PlanExpr-F.GroupCol k))
@@ -117,6 +117,7 @@ made_has cs row f has (x ∷ items) = (go (plain x) (plain_gives x), made_has cs
     step : (k : ℕ) → ((row : Row) (f : Calls) → value_of x row f ≡ value_at row k) → (o : Option Value) → constant_at cs k ≡ o → IsConstant o (value_of x row f)
     step k g None e = tt
     step k g (Some w) e = g row f ∙ constant_is cs row k w has e
+
     go : (p : Plain) → Gives p x → IsConstant (item_constant cs p) (value_of x row f)
     go (Column k) g = step k g (constant_at cs k) refl
     go (By k) g = tt

@@ -1,19 +1,19 @@
 -- The rows of a tree have its constants, and no two of them are equal at its key.
-use Rattle.std.specs.Prelude.{◌≡◌, ◌⊎◌, ◌+◌, ◌<◌, ℕ, zero, suc, Bool, true, false, not, ◌&&◌, if◌then◌else◌, List, [], ◌∷◌, ◌++◌, map, filter, flat_map, length, Option, Some, None, refl}
+use Rattle.std.specs.Prelude.{◌≡◌, ◌⊎◌, ◌+◌, ℕ, zero, suc, Bool, true, false, not, if◌then◌else◌, List, [], ◌∷◌, ◌++◌, map, filter, length, Option, Some, None, refl}
 use Rattle.std.proofs.Common.{ap, sym, ◌∙◌, inl, inr, subst, arith, zero-add}
 use Rattle.std.specs.Ordering.{eq_by_cmp}
 use Rattle.nova_value.specs.declared.value.Value.{Value}
 use Rattle.nova_value.specs.Order.{value_cmp}
 use Rattle.nova_value.specs.Orders.{same_values, same_keys}
-use Rattle.nova_value.specs.Rows.{Shape, FitsRow, value_at, key_at}
+use Rattle.nova_value.specs.Rows.{Shape, value_at, key_at}
 use Rattle.nova_pig_algebra.specs.declared.node.PlanExpr.{PlanExpr}
-use Rattle.nova_pig_algebra.specs.Meaning.{Row, Calls, same_row, value_of, holds, made, no_calls, calls_over}
+use Rattle.nova_pig_algebra.specs.Meaning.{Row, same_row, value_of, holds, made, no_calls, calls_over}
 use Rattle.nova_pig_algebra.specs.Tree.{Tree, Nothing, Load, Filter, Foreach, Grouped, Join, Union, Distinct, Arms, End, Arm, rows, arm_rows, rows_at, rising, members, joined, distinct}
 use Rattle.nova_pig_algebra.specs.declared.facts.Facts.{Facts}
-use Rattle.nova_pig_algebra.specs.Keys.{with_column, column_set, covers, columns_from, is_column, is_by, plain, places_of, constant_at, none_constant, foreach_key, join_key, in_arms, all_other, are_apart, first_apart, has_key, all_have, and_column, union_key, union_facts, or_all, shape_at, facts, arm_facts}
-use Rattle.nova_pig_algebra.specs.Statements.{In, Every, Apart, Keyed, AreRowsOf, AreTables}
+use Rattle.nova_pig_algebra.specs.Keys.{with_column, column_set, covers, columns_from, is_column, is_by, places_of, constant_at, foreach_key, join_key, in_arms, all_other, are_apart, first_apart, has_key, all_have, and_column, union_key, union_facts, or_all, shape_at, facts, arm_facts}
+use Rattle.nova_pig_algebra.specs.Statements.{In, Apart, Keyed, AreRowsOf, AreTables}
 use Rattle.nova_pig_algebra.proofs.Lists.{in_either, in_filtered, in_mapped, in_flattened, apart_filter, apart_within, apart_append, apart_map, apart_flat}
-use Rattle.nova_pig_algebra.proofs.Sets.{with_in, set_in, same_set, same_itself, both_true, covered, in_columns, Agree, Unlike, agree_by, by_agree}
+use Rattle.nova_pig_algebra.proofs.Sets.{with_in, set_in, same_set, both_true, covered, in_columns, Agree, Unlike, agree_by, by_agree}
 use Rattle.nova_pig_algebra.proofs.Values.{at_either, at_right, same_values_at, HasConstants, width_of, constant_is, none_has, append_has, fit_width}
 use Rattle.nova_pig_algebra.proofs.Items.{refers, refers_by, made_agree, made_has, made_width}
 use Rattle.nova_pig_algebra.proofs.Rising.{rising_differ, in_rising, in_distinct, distinct_apart, distinct_differ}
@@ -82,9 +82,11 @@ union_parts f fs key e = step f.key refl e
     column own a b (Some k) c h =
         let same : with_column k own ≡ key = cc in
         record { own = own; column = k; first_key = a; others = b; apart = first_is_apart (f ∷ fs) 0 (length f.constants) k c; is = same }
+
     had : (own : List ℕ) → f.key ≡ Some own → (b : Bool) → all_have own fs ≡ b → (if b then and_column (first_apart (f ∷ fs) 0 (length f.constants)) own else None) ≡ Some key → Parts f fs key
     had own a true b h = column own a b (first_apart (f ∷ fs) 0 (length f.constants)) refl h
     had own a false b h = absurd cc
+
     step : (o : Option (List ℕ)) → f.key ≡ o → union_key o fs (first_apart (f ∷ fs) 0 (length f.constants)) ≡ Some key → Parts f fs key
     step None a h = absurd cc
     step (Some own) a h = had own a (all_have own fs) refl h
@@ -167,17 +169,17 @@ module _ (left right : List Row) (left_by right_by : List ℕ) where
       → ((a : Row) → In a left → Apart (Unlike key) (map (λ b. a ++ b) (matching a))) → Apart (Unlike key) (joined left_by right_by left right)
   pairs_apart key own within apart same each =
       apart_flat (Unlike own) (Unlike key) (λ a. map (λ b. a ++ b) (matching a)) left apart each (λ a c i j differ p q ip iq agree.
-        let s = in_mapped (λ b. a ++ b) p (matching a) ip in
-        let t = in_mapped (λ b. c ++ b) q (matching c) iq in
-        differ (left_agree own a s.0 c t.0 (same a c i j) (λ k z. ap (λ w. value_at w k) (sym s.2) ∙ agree k (within k z) ∙ ap (λ w. value_at w k) t.2)))
+      let s = in_mapped (λ b. a ++ b) p (matching a) ip in
+      let t = in_mapped (λ b. c ++ b) q (matching c) iq in
+      differ (left_agree own a s.0 c t.0 (same a c i j) (λ k z. ap (λ w. value_at w k) (sym s.2) ∙ agree k (within k z) ∙ ap (λ w. value_at w k) t.2)))
 
   -- where the BY columns on the right include the right key, a left row has one partner
   covered_keyed : (key own : List ℕ) → Apart (Unlike key) left → Apart (Unlike own) right → covers right_by own ≡ true
       → ((x y : Row) → In x left → In y left → length x ≡ length y) → Apart (Unlike key) (joined left_by right_by left right)
   covered_keyed key own apart others cover same = pairs_apart key key (λ c i. i) apart same (λ a i.
       apart_map (Unlike key) (λ b. a ++ b) (matching a) (apart_within (Unlike own) (λ b d. Unlike key (a ++ b) (a ++ d)) (matching a)
-        (apart_filter (Unlike own) (λ b. same_row (key_at left_by a) (key_at right_by b)) right others)
-        (λ b d ib id differ agree. differ (λ c z. agree_by right_by b d (sym (matched a b ib) ∙ matched a d id) c (covered right_by own cover c z)))))
+      (apart_filter (Unlike own) (λ b. same_row (key_at left_by a) (key_at right_by b)) right others)
+      (λ b d ib id differ agree. differ (λ c z. agree_by right_by b d (sym (matched a b ib) ∙ matched a d id) c (covered right_by own cover c z)))))
 
   both_keyed : (n : ℕ) (l r : List ℕ) → Apart (Unlike l) left → Apart (Unlike r) right → ((x : Row) → In x left → length x ≡ n)
       → Apart (Unlike (l ++ map (λ k. n + k) r)) (joined left_by right_by left right)
@@ -185,8 +187,8 @@ module _ (left right : List Row) (left_by right_by : List ℕ) where
       let key = l ++ map (λ k. n + k) r in
       pairs_apart key l (λ c i. in_front c l (map (λ k. n + k) r) i) apart (λ x y i j. wide x i ∙ sym (wide y j)) (λ a i.
       apart_map (Unlike key) (λ b. a ++ b) (matching a) (apart_within (Unlike r) (λ b d. Unlike key (a ++ b) (a ++ d)) (matching a)
-        (apart_filter (Unlike r) (λ b. same_row (key_at left_by a) (key_at right_by b)) right others)
-        (λ b d ib id differ agree. differ (right_agree n r a b a d (wide a i) (wide a i) (λ c z. agree c (in_back c l (map (λ k. n + k) r) z))))))
+      (apart_filter (Unlike r) (λ b. same_row (key_at left_by a) (key_at right_by b)) right others)
+      (λ b d ib id differ agree. differ (right_agree n r a b a d (wide a i) (wide a i) (λ c z. agree c (in_back c l (map (λ k. n + k) r) z))))))
 
 module _ (inputs : List Shape) (tables : List (List Row)) (are : AreTables inputs tables) where
   -- the left and the right row of a pair
@@ -248,9 +250,9 @@ module _ (inputs : List Shape) (tables : List (List Row)) (are : AreTables input
   others (Arm arm arms) e v c a y i same =
       let q = other_parts v (constant_at (facts inputs arm).constants c) (in_arms c (arm_facts inputs arms)) a in
       either_of
-        (λ j. differs v q.0 q.2 (sym same ∙ constant_is (facts inputs arm).constants y c q.0 (has_constants arm e.0 y j) q.1))
-        (λ j. others arms e.1 v c q.3 y j same)
-        (in_either y (rows arm tables) (arm_rows arms tables) i)
+      (λ j. differs v q.0 q.2 (sym same ∙ constant_is (facts inputs arm).constants y c q.0 (has_constants arm e.0 y j) q.1))
+      (λ j. others arms e.1 v c q.3 y j same)
+      (in_either y (rows arm tables) (arm_rows arms tables) i)
 
   -- one arm more, which a constant tells from the others
   with_arm : (arm : Tree) (arms : Arms) → IsEven inputs arm → AreEven inputs arms → (own : List ℕ) (c : ℕ) (v : Value)
@@ -273,23 +275,23 @@ module _ (inputs : List Shape) (tables : List (List Row)) (are : AreTables input
   grouped_keyed from columns items key k =
       apart_map (Unlike key) (λ by. made items by (calls_over (members columns from by))) (rising (map (key_at columns) from))
       (apart_within (λ a b. a ≡ b → ⊥) (λ a b. Unlike key (made items a (calls_over (members columns from a))) (made items b (calls_over (members columns from b)))) (rising (map (key_at columns) from)) (rising_differ (map (key_at columns) from))
-        (λ a b i j differ agree.
-          let p = in_mapped (key_at columns) a from (in_rising (map (key_at columns) from) a i) in
-          let q = in_mapped (key_at columns) b from (in_rising (map (key_at columns) from) b j) in
-          let f = calls_over (members columns from a) in
-          let g = calls_over (members columns from b) in
-          differ (p.2 ∙ by_agree columns p.0 q.0 (made_agree (is_by columns) items columns key k a b p.0 q.0 f g
-            (λ n x t. ap (λ z. value_of x z f) p.2 ∙ refers_by columns n x t p.0 f)
-            (λ n x t. ap (λ z. value_of x z g) q.2 ∙ refers_by columns n x t q.0 g) agree) ∙ sym q.2)))
+      (λ a b i j differ agree.
+      let p = in_mapped (key_at columns) a from (in_rising (map (key_at columns) from) a i) in
+      let q = in_mapped (key_at columns) b from (in_rising (map (key_at columns) from) b j) in
+      let f = calls_over (members columns from a) in
+      let g = calls_over (members columns from b) in
+      differ (p.2 ∙ by_agree columns p.0 q.0 (made_agree (is_by columns) items columns key k a b p.0 q.0 f g
+      (λ n x t. ap (λ z. value_of x z f) p.2 ∙ refers_by columns n x t p.0 f)
+      (λ n x t. ap (λ z. value_of x z g) q.2 ∙ refers_by columns n x t q.0 g) agree) ∙ sym q.2)))
 
   all_keyed : (from : Tree) → IsEven inputs from → Apart (Unlike (columns_from 0 (length (facts inputs from).constants))) (distinct (rows from tables))
   all_keyed from e =
       let n = length (facts inputs from).constants in
       apart_within (λ x y. x ≡ y → ⊥) (Unlike (columns_from 0 n)) (distinct (rows from tables)) (distinct_differ (rows from tables))
       (λ x y i j differ agree.
-        let a = width from e x (in_distinct x (rows from tables) i) in
-        let b = width from e y (in_distinct y (rows from tables) j) in
-        differ (same_values_at x y (a ∙ sym b) (λ k lt. agree k (subst (λ z. In z (columns_from 0 n)) (zero-add k) (in_columns 0 n k (omega arith))))))
+      let a = width from e x (in_distinct x (rows from tables) i) in
+      let b = width from e y (in_distinct y (rows from tables) j) in
+      differ (same_values_at x y (a ∙ sym b) (λ k lt. agree k (subst (λ z. In z (columns_from 0 n)) (zero-add k) (in_columns 0 n k (omega arith))))))
 
   join_keyed : (left right : Tree) (left_by right_by : List ℕ) → IsEven inputs left → (key : List ℕ)
       → ((l : List ℕ) → (facts inputs left).key ≡ Some l → Apart (Unlike l) (rows left tables))
@@ -312,7 +314,7 @@ module _ (inputs : List Shape) (tables : List (List Row)) (are : AreTables input
         let p = foreach_parts items (facts inputs from).key key k in
         apart_map (Unlike key) (λ row. made items row no_calls) (rows from tables)
         (apart_within (Unlike p.0) (λ a b. Unlike key (made items a no_calls) (made items b no_calls)) (rows from tables) (keyed_tree from e p.0 p.1)
-          (λ a b i j differ agree. differ (made_agree is_column items p.0 key p.2 a b a b no_calls no_calls (λ n x t. refers n x t a no_calls) (λ n x t. refers n x t b no_calls) agree)))
+        (λ a b i j differ agree. differ (made_agree is_column items p.0 key p.2 a b a b no_calls no_calls (λ n x t. refers n x t a no_calls) (λ n x t. refers n x t b no_calls) agree)))
     keyed_tree (Grouped from columns items) e key k = grouped_keyed (rows from tables) columns items key k
     keyed_tree (Join left left_by right right_by) e key k =
         join_keyed left right left_by right_by e.0 key (λ l is. keyed_tree left e.0 l is) (λ r is. keyed_tree right e.1 r is)

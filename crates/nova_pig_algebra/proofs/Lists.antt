@@ -1,5 +1,5 @@
 -- Members of lists, and lists whose places are apart.
-use Rattle.std.specs.Prelude.{◌≡◌, ◌⊎◌, Bool, true, false, cond, not, List, [], ◌∷◌, ◌++◌, map, filter, flat_map, refl}
+use Rattle.std.specs.Prelude.{◌≡◌, ◌⊎◌, Bool, true, false, cond, List, [], ◌∷◌, ◌++◌, map, filter, flat_map, refl}
 use Rattle.std.proofs.Common.{ap, sym, ◌∙◌, inl, inr, subst}
 use Rattle.nova_pig_algebra.specs.Statements.{In, Every, Apart}
 
@@ -24,6 +24,7 @@ module _ {X : Type 0} where
     where
       later : In x xs × (test x ≡ true) → In x (y ∷ xs) × (test x ≡ true)
       later p = (inr p.0, p.1)
+
       by_test : (In x (filter test xs) → In x xs × (test x ≡ true)) → (b : Bool) → test y ≡ b → In x (cond b (y ∷ filter test xs) (filter test xs)) → In x (y ∷ xs) × (test x ≡ true)
       by_test go true e (inl same) = (inl same, ap test same ∙ e)
       by_test go true e (inr rest) = later (go rest)

@@ -1,5 +1,5 @@
 -- The distinct lists of BY values, and lists without repeats.
-use Rattle.std.specs.Prelude.{◌≡◌, ◌⊎◌, ℕ, Bool, true, false, not, T, ◌&&◌, List, [], ◌∷◌, map, filter, length, refl}
+use Rattle.std.specs.Prelude.{◌≡◌, ◌⊎◌, Bool, true, false, not, T, ◌&&◌, List, [], ◌∷◌, map, length}
 use Rattle.std.proofs.Common.{ap, sym, ◌∙◌, inl, inr, subst, arith}
 use Rattle.std.specs.declared.cmp.Ordering.{Ordering}
 use Rattle.std.specs.declared.cmp.Ordering.TheVariants.{Less, Equal, Greater}
@@ -12,7 +12,7 @@ use Rattle.nova_value.specs.Orders.{keys_total, same_keys}
 use Rattle.nova_pig_algebra.specs.Meaning.{Row, same_row}
 use Rattle.nova_pig_algebra.specs.Tree.{rising, distinct}
 use Rattle.nova_pig_algebra.specs.Statements.{In, Every, Apart}
-use Rattle.nova_pig_algebra.proofs.Lists.{in_filtered, every_in, every_of, every_filter, apart_filter}
+use Rattle.nova_pig_algebra.proofs.Lists.{in_filtered, every_in, every_of, apart_filter}
 
 abbrev Pairs : Type 0
 Pairs = List (Row × Row)
@@ -49,6 +49,7 @@ in_put q k v (e ∷ es) i = step (key_cmp k e.0) (in_put q k v es) i
     past : (q ≡ k) ⊎ In q (firsts es) → (q ≡ k) ⊎ In q (firsts (e ∷ es))
     past (inl a) = inl a
     past (inr b) = inr (inr b)
+
     step : (o : Ordering) → (In q (firsts (put key_cmp k v es)) → (q ≡ k) ⊎ In q (firsts es))
         → In q (firsts (by_order o ((k, v) ∷ e ∷ es) ((e.0, v) ∷ es) (e ∷ put key_cmp k v es))) → (q ≡ k) ⊎ In q (firsts (e ∷ es))
     step Less go j = j
@@ -80,9 +81,9 @@ in_distinct x (r ∷ rows) (inr i) = inr (in_distinct x rows (in_filtered (λ ot
 pub distinct_apart : (R : Row → Row → Type 0) (rows : List Row) → Apart R rows → Apart R (distinct rows)
 distinct_apart R [] h = tt
 distinct_apart R (r ∷ rows) h = (
-    every_of (R r) _ (λ x i. every_in (R r) rows x h.0 (in_distinct x rows (in_filtered (λ other. not (same_row r other)) x (distinct rows) i).0)),
-    apart_filter R (λ other. not (same_row r other)) (distinct rows) (distinct_apart R rows h.1)
-  )
+  every_of (R r) _ (λ x i. every_in (R r) rows x h.0 (in_distinct x rows (in_filtered (λ other. not (same_row r other)) x (distinct rows) i).0)),
+  apart_filter R (λ other. not (same_row r other)) (distinct rows) (distinct_apart R rows h.1),
+)
 
 not_both : (b : Bool) → b ≡ true → not b ≡ true → ⊥
 not_both true e f = cc
@@ -91,6 +92,6 @@ not_both false e f = cc
 pub distinct_differ : (rows : List Row) → Apart (λ x y. x ≡ y → ⊥) (distinct rows)
 distinct_differ [] = tt
 distinct_differ (r ∷ rows) = (
-    every_of (λ y. r ≡ y → ⊥) _ (λ x i e. not_both (same_row r x) ((same_keys r x).1 e) (in_filtered (λ other. not (same_row r other)) x (distinct rows) i).1),
-    apart_filter (λ x y. x ≡ y → ⊥) (λ other. not (same_row r other)) (distinct rows) (distinct_differ rows)
-  )
+  every_of (λ y. r ≡ y → ⊥) _ (λ x i e. not_both (same_row r x) ((same_keys r x).1 e) (in_filtered (λ other. not (same_row r other)) x (distinct rows) i).1),
+  apart_filter (λ x y. x ≡ y → ⊥) (λ other. not (same_row r other)) (distinct rows) (distinct_differ rows),
+)

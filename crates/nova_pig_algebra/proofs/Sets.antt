@@ -1,5 +1,5 @@
 -- Sets of columns, and rows that agree at them.
-use Rattle.std.specs.Prelude.{◌≡◌, ◌⊎◌, ◌<◌, ℕ, zero, suc, ◌+◌, ◌==◌, nat_lt, Bool, true, false, ◌&&◌, ◌||◌, if◌then◌else◌, List, [], ◌∷◌, map, refl}
+use Rattle.std.specs.Prelude.{◌≡◌, ◌⊎◌, ◌<◌, ℕ, zero, suc, ◌+◌, ◌==◌, nat_lt, Bool, true, false, ◌&&◌, ◌||◌, if◌then◌else◌, List, [], ◌∷◌, refl}
 use Rattle.std.proofs.Common.{ap, sym, ◌∙◌, inl, inr, subst, eqb-true, arith}
 use Rattle.std.specs.FinMap.{nat_cmp-IsAntisymmetric, slice_cmp-IsAntisymmetric}
 use Rattle.std.specs.Cmp.{nat_cmp_total}
@@ -20,6 +20,7 @@ in_with c k (j ∷ js) h = by_less (λ i. in_with c k js i) (nat_lt k j) (k == j
     past : (c ≡ k) ⊎ In c js → (c ≡ k) ⊎ In c (j ∷ js)
     past (inl e) = inl e
     past (inr i) = inr (inr i)
+
     by_less : (In c (with_column k js) → (c ≡ k) ⊎ In c js) → (a b : Bool) → In c (if a then k ∷ j ∷ js else (if b then j ∷ js else j ∷ with_column k js)) → (c ≡ k) ⊎ In c (j ∷ js)
     by_less go true b i = i
     by_less go false true i = inr i

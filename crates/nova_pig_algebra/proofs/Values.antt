@@ -1,8 +1,7 @@
 -- Values of rows by their places, and rows that have the constants of their columns.
-use Rattle.std.specs.Prelude.{◌≡◌, ◌≤◌, ◌<◌, ◌+◌, ℕ, zero, suc, pos, List, [], ◌∷◌, ◌++◌, map, length, slice_get, Option, Some, None, refl}
-use Rattle.std.proofs.Common.{ap, sym, ◌∙◌, subst, arith, zero-add}
+use Rattle.std.specs.Prelude.{◌≡◌, ◌<◌, ◌+◌, ℕ, zero, suc, List, [], ◌∷◌, ◌++◌, length, slice_get, Option, Some, None, refl}
+use Rattle.std.proofs.Common.{ap, ◌∙◌, subst, arith}
 use Rattle.nova_value.specs.declared.value.Value.{Value}
-use Rattle.nova_value.specs.declared.value.Value.TheVariants.{Long}
 use Rattle.nova_value.specs.declared.schema.Column.{Column}
 use Rattle.nova_value.specs.Rows.{value_at, key_at, FitKinds, kinds}
 use Rattle.nova_pig_algebra.specs.Meaning.{Row}

@@ -6,7 +6,7 @@ use Rattle.nova_pig_algebra.specs.declared.node.PlanExpr.{PlanExpr}
 use Rattle.nova_pig_algebra.specs.declared.node.Node.{Node}
 use Rattle.nova_pig_algebra.specs.declared.node.Node.TheVariants as node
 use Rattle.nova_pig_algebra.specs.declared.node.Sort.{Sort}
-use Rattle.nova_pig_algebra.specs.declared.node.Sort.TheVariants.{Of, Condition}
+use Rattle.nova_pig_algebra.specs.declared.node.Sort.TheVariants.{Of}
 use Rattle.nova_pig_algebra.specs.Sorts.{Over, Row, Bag, has, is_condition, sort_of}
 
 abbrev pub same_kind : Kind → Kind → Bool

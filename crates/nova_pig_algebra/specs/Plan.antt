@@ -1,5 +1,5 @@
 -- Plans, what they mean and what is true of each.
-use Rattle.std.specs.Prelude.{◌≡◌, true, ℕ, List, [], ◌∷◌, map, Option, Some, slice_get}
+use Rattle.std.specs.Prelude.{◌≡◌, true, ℕ, List, [], map, Option, Some, slice_get}
 use Rattle.nova_value.specs.declared.value.Kind.{Kind}
 use Rattle.nova_value.specs.Rows.{Shape, kinds}
 use Rattle.nova_pig_algebra.specs.declared.node.Node.{Node}

@@ -1,5 +1,5 @@
 -- What the laws of this crate say. Each is the contract of a function of `laws`.
-use Rattle.std.specs.Prelude.{◌≡◌, ◌⊎◌, ℕ, List, [], ◌∷◌, Option, Some}
+use Rattle.std.specs.Prelude.{◌≡◌, ◌⊎◌, ℕ, List, [], ◌∷◌, Some}
 use Rattle.std.specs.List.{AllByRecursion}
 use Rattle.nova_value.specs.Rows.{Shape, FitsRow, key_at}
 use Rattle.nova_pig_algebra.specs.declared.node.PlanExpr.{PlanExpr}

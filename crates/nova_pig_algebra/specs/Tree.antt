@@ -1,5 +1,5 @@
 -- A plan's stored node with all that it stands on, as a tree, and the list of rows that it gives.
-use Rattle.std.specs.Prelude.{ℕ, List, [], ◌∷◌, ◌++◌, map, filter, flat_map, not, slice_index_or, slice_get, Option, Some, None}
+use Rattle.std.specs.Prelude.{ℕ, List, [], ◌∷◌, ◌++◌, map, filter, flat_map, not, slice_index_or, slice_get, Option, Some}
 use Rattle.std.specs.FinMap.{keys, from_entries}
 use Rattle.nova_value.specs.Order.{key_cmp}
 use Rattle.nova_value.specs.Rows.{key_at}

@@ -6,16 +6,19 @@ ghost use Rattle.nova_pig_algebra.specs.Literals as spec;
 use crate::node::{Node, PlanExpr};
 use nova_value::Str;
 
+/// A number of the program has 64 bits.
 fn number_is_long(n: i64)
     ensures { spec.is_long n ≡ true }
 {}
 
+/// A text of the program is within the bounds of text values.
 fn text_is_value(text: &Str)
     ensures { spec.is_text text.now ≡ true }
 {
     let _bytes = text.bytes();
 }
 
+/// The literals of an expression are values.
 fn expression_has_values(expr: &PlanExpr)
     ensures { spec.has_values expr.now ≡ true }
 {
@@ -59,6 +62,7 @@ fn expression_has_values(expr: &PlanExpr)
     }
 }
 
+/// The literals of items are values.
 fn items_have_values(items: &[PlanExpr])
     ensures { spec.all_have_values items.now ≡ true }
 {
@@ -67,6 +71,7 @@ fn items_have_values(items: &[PlanExpr])
     }
 }
 
+/// The literals of a node are values.
 fn node_has_values(node: &Node)
     ensures { spec.node_has_values node.now ≡ true }
 {

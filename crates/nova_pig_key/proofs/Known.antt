@@ -1,12 +1,12 @@
 -- What is known node by node is what is known of the trees.
 use Rattle.std.specs.Prelude.{◌≡◌, ℕ, zero, suc, List, [], ◌∷◌, ◌++◌, map, slice_get, Option, Some, None, refl}
-use Rattle.std.proofs.Common.{ap, sym, ◌∙◌, subst}
+use Rattle.std.proofs.Common.{ap, sym, ◌∙◌}
 use Rattle.nova_value.specs.Rows.{Shape}
 use Rattle.nova_pig_algebra.specs.declared.facts.Facts.{Facts}
 use Rattle.nova_pig_algebra.specs.declared.node.PlanExpr.{PlanExpr}
 use Rattle.nova_pig_algebra.specs.declared.node.Node.{Node}
 use Rattle.nova_pig_algebra.specs.declared.node.Node.TheVariants as node
-use Rattle.nova_pig_algebra.specs.Tree.{Tree, Arms, tree_at, arms_at, foreach_tree, tree_of, trees_after, trees}
+use Rattle.nova_pig_algebra.specs.Tree.{Tree, tree_at, arms_at, foreach_tree, tree_of, trees_after, trees}
 use Rattle.nova_pig_algebra.specs.Keys.{facts, arm_facts, foreach_facts, join_facts, union_facts, distinct_facts}
 use Rattle.nova_pig_key.specs.Steps.{fact_at, facts_at, foreach_of, node_facts, facts_after}
 

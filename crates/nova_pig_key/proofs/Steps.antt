@@ -1,5 +1,5 @@
 -- One step of the loops over columns.
-use Rattle.std.specs.Prelude.{◌≡◌, ◌<◌, ◌+◌, ◌-◌, ℕ, zero, suc, if◌then◌else◌, List, [], ◌∷◌, ◌++◌, Option, Some, None, refl}
+use Rattle.std.specs.Prelude.{◌≡◌, ◌<◌, ◌+◌, ◌-◌, ℕ, zero, suc, if◌then◌else◌, List, [], ◌∷◌, ◌++◌, Some, refl}
 use Rattle.std.proofs.Common.{ap, sym, ◌∙◌, arith, append_assoc}
 use Rattle.nova_pig_algebra.specs.declared.facts.Facts.{Facts}
 use Rattle.nova_pig_algebra.specs.Keys.{unknown, unknowns, are_apart, in_arms, first_apart, columns_from}

@@ -8,6 +8,7 @@ use nova_value::{Value, copy_value};
 use sqlite_items::Items;
 use std::alloc::{AllocError, Global};
 
+/// A copy of a column's constant.
 fn copy_constant(alloc: Global, constant: &Option<Value>) -> Result<Option<Value>, AllocError>
     ensures { IfOk result (λ o. o ≡ constant.now) }
 {

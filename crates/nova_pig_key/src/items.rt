@@ -8,6 +8,7 @@ use nova_pig_algebra::PlanExpr;
 use sqlite_items::Items;
 use std::alloc::{AllocError, Global};
 
+/// Whether the item is a plain reference to the column.
 fn is_column(column: u32, item: &PlanExpr) -> bool
     ensures { result ≡ spec.is_column column (spec.plain_step (out-PlanExpr item.now)) }
 {
@@ -17,6 +18,7 @@ fn is_column(column: u32, item: &PlanExpr) -> bool
     }
 }
 
+/// Whether the column stands at this place of the list.
 fn is_column_at(columns: &[u32], place: u32, column: u32) -> bool
     ensures { result ≡ spec.is_some column (slice_get columns.now place) }
 {
@@ -26,6 +28,7 @@ fn is_column_at(columns: &[u32], place: u32, column: u32) -> bool
     }
 }
 
+/// Whether the item is that column of the source, by which these columns group.
 fn is_by(columns: &[u32], column: u32, item: &PlanExpr) -> bool
     ensures { result ≡ spec.is_by columns.now column (spec.plain_step (out-PlanExpr item.now)) }
 {

@@ -13,6 +13,7 @@ use nova_value::{Schema, Value};
 use sqlite_items::Items;
 use std::alloc::{AllocError, Global};
 
+/// What is known where no node is: no columns, and no key.
 fn nothing(alloc: Global) -> Facts
     ensures { result ≡ spec.facts_of [] None }
 {
@@ -22,6 +23,7 @@ fn nothing(alloc: Global) -> Facts
     }
 }
 
+/// What is known of a node, by its number.
 fn fact_at<'a>(done: &'a [Facts], none: &'a Facts, node: u32) -> &'a Facts
     requires { none.now ≡ spec.facts_of [] None }
     ensures { result.now ≡ step.fact_at done.now node }
@@ -32,6 +34,7 @@ fn fact_at<'a>(done: &'a [Facts], none: &'a Facts, node: u32) -> &'a Facts
     }
 }
 
+/// A copy of a key.
 fn copy_key(alloc: Global, key: &Option<Items<u32>>) -> Result<Option<Items<u32>>, AllocError>
     ensures { IfOk result (λ k. k ≡ key.now) }
 {
@@ -41,6 +44,7 @@ fn copy_key(alloc: Global, key: &Option<Items<u32>>) -> Result<Option<Items<u32>
     }
 }
 
+/// A copy of what is known.
 fn copy_facts(alloc: Global, facts: &Facts) -> Result<Facts, AllocError>
     ensures { IfOk result (λ f. f ≡ facts.now) }
 {
@@ -49,6 +53,7 @@ fn copy_facts(alloc: Global, facts: &Facts) -> Result<Facts, AllocError>
     Ok(Facts { constants, key })
 }
 
+/// LOAD: the channel's key columns.
 fn load_facts(alloc: Global, inputs: &[Schema], input: u32) -> Result<Facts, AllocError>
     ensures { IfOk result (λ f. f ≡ spec.load_facts (spec.shape_at inputs.now input)) }
 {
@@ -68,6 +73,7 @@ fn load_facts(alloc: Global, inputs: &[Schema], input: u32) -> Result<Facts, All
     }
 }
 
+/// The key of a FOREACH, by that of its operand.
 fn foreach_key(
     alloc: Global,
     items: &[PlanExpr],
@@ -81,6 +87,7 @@ fn foreach_key(
     }
 }
 
+/// FOREACH: for each key column of the operand the first item that is a plain reference to it.
 fn foreach_facts(alloc: Global, items: &[PlanExpr], from: &Facts) -> Result<Facts, AllocError>
     ensures { IfOk result (λ f. f ≡ spec.foreach_facts items.now from.now) }
 {
@@ -89,6 +96,7 @@ fn foreach_facts(alloc: Global, items: &[PlanExpr], from: &Facts) -> Result<Fact
     Ok(Facts { constants, key })
 }
 
+/// GROUP then FOREACH: for each BY column the first item that is it.
 fn grouped_facts(alloc: Global, columns: &[u32], items: &[PlanExpr]) -> Result<Facts, AllocError>
     ensures { IfOk result (λ f. f ≡ spec.grouped_facts columns.now items.now) }
 {
@@ -110,6 +118,7 @@ fn push_moved(out: &mut Items<u32>, width: usize, columns: &[u32]) -> Result<(),
     Ok(())
 }
 
+/// Both keys of a JOIN, the right one moved by the left width.
 fn both_keys(
     alloc: Global,
     left: &[u32],
@@ -124,6 +133,7 @@ fn both_keys(
     Ok(out)
 }
 
+/// The key of a JOIN, by those of its operands.
 fn join_key(
     alloc: Global,
     right_by: &[u32],
@@ -148,6 +158,7 @@ fn join_key(
     }
 }
 
+/// JOIN: the left key where the right BY columns include the right key, else both keys.
 fn join_facts(
     alloc: Global,
     right_by: &[u32],
@@ -215,6 +226,7 @@ fn first_apart(arms: &[Facts], width: usize) -> Option<usize>
     None
 }
 
+/// Whether the other key is there and is this one.
 fn has_key(key: &[u32], other: &Option<Items<u32>>) -> bool
     ensures { result ≡ spec.has_key key.now other.now }
 {
@@ -224,6 +236,7 @@ fn has_key(key: &[u32], other: &Option<Items<u32>>) -> bool
     }
 }
 
+/// Whether all arms have this key.
 fn all_have(key: &[u32], arms: &[Facts]) -> bool
     ensures { result ≡ spec.all_have key.now arms.now }
 {
@@ -235,6 +248,7 @@ fn all_have(key: &[u32], arms: &[Facts]) -> bool
     true
 }
 
+/// The key with the column, where there is one.
 fn and_column(
     alloc: Global,
     column: Option<usize>,
@@ -251,6 +265,8 @@ fn and_column(
     }
 }
 
+/// UNION: where all arms have one key and a column tells them apart, the key and the first such
+/// column.
 fn union_facts(alloc: Global, arms: &[Facts]) -> Result<Facts, AllocError>
     ensures { IfOk result (λ f. f ≡ spec.union_facts arms.now) }
 {
@@ -284,6 +300,7 @@ fn all_columns(alloc: Global, width: usize) -> Result<Items<u32>, AllocError>
     Ok(out)
 }
 
+/// DISTINCT: the key of the operand, or all columns where it has none.
 fn distinct_facts(alloc: Global, from: &Facts) -> Result<Facts, AllocError>
     ensures { IfOk result (λ f. f ≡ spec.distinct_facts from.now) }
 {
@@ -315,6 +332,7 @@ fn facts_at(
     Ok(out)
 }
 
+/// A FOREACH over a source: over a GROUP, or over rows.
 fn foreach_of(
     alloc: Global,
     source: Option<&Node>,
@@ -370,11 +388,7 @@ fn node_facts(
 }
 
 /// What is known of each node, from the left.
-fn all_facts(
-    alloc: Global,
-    inputs: &[Schema],
-    nodes: &[Node],
-) -> Result<Items<Facts>, AllocError>
+fn all_facts(alloc: Global, inputs: &[Schema], nodes: &[Node]) -> Result<Items<Facts>, AllocError>
     ensures { IfOk result (λ fs. fs ≡ step.facts_after inputs.now nodes.now [] nodes.now) }
 {
     let mut done = Items::new(alloc);

@@ -37,11 +37,7 @@ fn push_with(out: &mut Items<u32>, column: u32, set: &[u32]) -> Result<(), Alloc
 }
 
 /// The set with one column more.
-pub(crate) fn with_column(
-    alloc: Global,
-    column: u32,
-    set: &[u32],
-) -> Result<Items<u32>, AllocError>
+pub(crate) fn with_column(alloc: Global, column: u32, set: &[u32]) -> Result<Items<u32>, AllocError>
     ensures { IfOk result (λ r. r ≡ spec.with_column column set.now) }
 {
     let mut out = Items::new(alloc);
@@ -62,6 +58,7 @@ pub(crate) fn column_set(alloc: Global, columns: &[u32]) -> Result<Items<u32>, A
     }
 }
 
+/// Whether it is one of the columns.
 fn is_one_of(column: u32, columns: &[u32]) -> bool
     ensures { result ≡ spec.is_one_of column columns.now }
 {
@@ -85,6 +82,7 @@ pub(crate) fn covers(columns: &[u32], these: &[u32]) -> bool
     true
 }
 
+/// Whether both are the same list.
 pub(crate) fn same_columns(a: &[u32], b: &[u32]) -> bool
     ensures { result ≡ spec.same_columns a.now b.now }
 {

@@ -1,16 +1,14 @@
 -- An answered node has the kinds of its scope.
-use Rattle.std.proofs.Common.{◌≡◌, ◌<◌, ◌≤◌, ◌+◌, ℕ, zero, suc, Bool, true, false, ◌&&◌, if◌then◌else◌, nat_le, List, [], ◌∷◌, ◌++◌, map, length, Option, Some, None, Ok, Err, slice_get, refl, ap, sym, ◌∙◌, subst, arith}
+use Rattle.std.proofs.Common.{◌≡◌, ◌+◌, ℕ, suc, Bool, true, false, if◌then◌else◌, nat_le, List, [], ◌∷◌, ◌++◌, map, length, Option, Some, None, Ok, Err, slice_get, refl, ap, sym, ◌∙◌, subst, arith}
 use Rattle.nova_value.specs.declared.value.Kind.{Kind}
 use Rattle.nova_pig_tree.specs.declared.expression.Expr.{Expr}
 use Rattle.nova_pig_tree.specs.declared.statement.Item.{Item}
 use Rattle.nova_pig_tree.specs.declared.statement.Item.TheVariants as item
 use Rattle.nova_pig_algebra.specs.declared.node.PlanExpr.{PlanExpr}
 use Rattle.nova_pig_algebra.specs.declared.node.PlanExpr.TheVariants as p
-use Rattle.nova_pig_algebra.specs.declared.node.Node.{Node}
 use Rattle.nova_pig_algebra.specs.declared.node.Node.TheVariants as node
 use Rattle.nova_pig_algebra.specs.declared.node.Sort.{Sort}
 use Rattle.nova_pig_algebra.specs.declared.node.Sort.TheVariants.{Of, Condition}
-use Rattle.nova_pig_plan.specs.declared.fault.Cause.{Cause}
 use Rattle.nova_pig_plan.specs.declared.fault.Cause.TheVariants as fault
 use Rattle.nova_pig_plan.specs.declared.scope.Col.{Col}
 use Rattle.nova_pig_plan.specs.declared.scope.Scope.{Scope}
@@ -20,7 +18,7 @@ use Rattle.nova_pig_plan.specs.declared.scope.Made.{Made}
 use Rattle.nova_pig_plan.specs.declared.scope.Defined.{Defined}
 use Rattle.nova_pig_plan.specs.declared.scope.Channels.{Channels}
 use Rattle.nova_pig_plan.specs.Answers.{Answer, first, if_not}
-use Rattle.nova_pig_plan.specs.Columns.{same_text, field_of}
+use Rattle.nova_pig_plan.specs.Columns.{same_text}
 use Rattle.nova_pig_plan.specs.Exprs.{is_condition, expr_of}
 use Rattle.nova_pig_plan.specs.Items.{same_kind, value_kind, with_kind as with_kind_of, item_label, with_all, with_flat, flattened, with_item, nothing, item_of, items_of, value_of}
 use Rattle.nova_pig_plan.specs.Plans.{Aliases, find, known, some_or, ungrouped, defined, filter_rows, foreach, distinct}

@@ -1,5 +1,5 @@
 -- An answered plan has kinds.
-use Rattle.std.proofs.Common.{◌≡◌, ◌<◌, ◌≤◌, ◌+◌, ℕ, zero, suc, Bool, true, false, ◌&&◌, if◌then◌else◌, nat_eq, nat_le, List, [], ◌∷◌, ◌++◌, map, length, Option, Some, None, Result, Ok, Err, slice_get, refl, ap, sym, ◌∙◌, subst, arith}
+use Rattle.std.proofs.Common.{◌≡◌, ◌<◌, ℕ, zero, suc, Bool, true, false, ◌&&◌, if◌then◌else◌, nat_eq, nat_le, List, [], ◌∷◌, ◌++◌, map, length, Option, Some, None, Result, Ok, Err, slice_get, refl, ap, sym, ◌∙◌, subst, arith}
 use Rattle.nova_value.specs.declared.value.Kind.{Kind}
 use Rattle.nova_value.specs.declared.value.Kind.TheVariants as kind
 use Rattle.nova_value.specs.declared.schema.Column.{Column}
@@ -24,7 +24,7 @@ use Rattle.nova_pig_plan.specs.Items.{same_kind, column_at}
 use Rattle.nova_value.specs.Rows.{Shape}
 use Rattle.nova_pig_algebra.specs.declared.node.Node.TheVariants as node
 use Rattle.nova_pig_plan.specs.Plans.{all_known, all_alike, none_grouped, first_rows, rows_of, defined, fields_of, columns_at, same_kinds_at, from_alias, find, some_or, Aliases, fresh, known, ungrouped, load, group, join, union, op_of, define, store, test, same_kinds, channel_columns, statement_of, at_statement, graph, graph_after, graph_of}
-use Rattle.nova_pig_plan.specs.Sorts.{Over, Row, Bag, over, kinds}
+use Rattle.nova_pig_plan.specs.Sorts.{Over, Row, over, kinds}
 use Rattle.nova_pig_plan.specs.Kinded.{are_rows, all_rows, union_over, and_kind, kinds_at, as_bag, same_list, group_over, join_over, as_rows, node_over, overs, input_kinds, Kinded, nodes_over, and_then, output_over, IsKinded}
 use Rattle.nova_pig_plan.proofs.Sorted.{field_within}
 use Rattle.nova_pig_plan.proofs.NodeKinds.{on_known, on_rows, found_in, known_at, filter_kinded, foreach_kinded, distinct_kinded}

@@ -1,5 +1,5 @@
 -- The equations of `sort_of`, and that an answered expression has the sort that the answer says.
-use Rattle.std.proofs.Common.{◌≡◌, ◌<◌, ◌≤◌, ◌+◌, ℕ, zero, suc, ℤ, Bool, true, false, ◌&&◌, if◌then◌else◌, nat_lt, List, [], ◌∷◌, map, length, Option, Some, None, Ok, Err, slice_get, slice_index_or, refl, ap, sym, ◌∙◌, subst, arith}
+use Rattle.std.proofs.Common.{◌≡◌, ◌<◌, ◌≤◌, ◌+◌, ℕ, zero, suc, ℤ, Bool, true, false, ◌&&◌, if◌then◌else◌, nat_lt, List, [], ◌∷◌, length, Option, Some, None, Ok, Err, slice_get, refl, ap, sym, ◌∙◌, subst, arith}
 use Rattle.std.proofs.lemmas.Bool.Decides.{nat_tests}
 use Rattle.nova_value.specs.declared.value.Kind.{Kind}
 use Rattle.nova_value.specs.declared.value.Kind.TheVariants as kind
@@ -10,14 +10,14 @@ use Rattle.nova_pig_tree.specs.declared.expression.Field.{Field}
 use Rattle.nova_pig_tree.specs.declared.expression.Field.TheVariants as field
 use Rattle.nova_pig_tree.specs.declared.expression.Expr.{Expr}
 use Rattle.nova_pig_tree.specs.declared.expression.Expr.TheOpen.{Expr-F}
-use Rattle.nova_pig_tree.specs.declared.expression.Expr.TheFolds.{fold-Expr, fold-roll-Expr, ind-Expr, map-Expr}
+use Rattle.nova_pig_tree.specs.declared.expression.Expr.TheFolds.{fold-roll-Expr, ind-Expr, map-Expr}
 use Rattle.nova_pig_tree.specs.declared.expression.Expr.TheViews.{roll-Expr}
 use Rattle.nova_pig_algebra.specs.declared.node.PlanExpr.{PlanExpr}
 use Rattle.nova_pig_algebra.specs.declared.node.PlanExpr.TheOpen.{PlanExpr-F}
 use Rattle.nova_pig_algebra.specs.declared.node.PlanExpr.TheVariants as p
 use Rattle.nova_pig_algebra.specs.declared.node.PlanExpr.TheFolds.{fold-roll-PlanExpr}
 use Rattle.nova_pig_algebra.specs.declared.node.Sort.{Sort}
-use Rattle.nova_pig_algebra.specs.declared.node.Sort.TheVariants.{Of, Condition}
+use Rattle.nova_pig_algebra.specs.declared.node.Sort.TheVariants.{Condition}
 use Rattle.nova_pig_plan.specs.declared.fault.Cause.TheVariants as fault
 use Rattle.nova_pig_plan.specs.declared.scope.Col.{Col}
 use Rattle.nova_pig_plan.specs.declared.scope.Scope.{Scope}
@@ -25,8 +25,8 @@ use Rattle.nova_pig_plan.specs.declared.scope.Scope.TheVariants.{Rows, Group}
 use Rattle.nova_pig_plan.specs.declared.scope.Typed.{Typed}
 use Rattle.nova_pig_plan.specs.Answers.{Answer, first, both, if_not}
 use Rattle.nova_pig_plan.specs.Columns.{places, the_one, field_of, kind_at, is_named, comes_from, same_text}
-use Rattle.nova_pig_plan.specs.Exprs.{typed, long, is_long, is_condition, are_alike, longs, conditions, alike, minus, negated, choice, expr_of, expr_step, ref_of, call_of, group_field, whole_group, group_name, group_place, column_place, call_field, column_call, bag_call}
-use Rattle.nova_pig_plan.specs.Sorts.{Over, Row, Bag, over, kinds, of_kind, when, has, are, chosen, col_sort, group_sort, agg_sort, column_agg, bag_agg, long_sort, condition_sort, sort_of, sort_step, Sorted}
+use Rattle.nova_pig_plan.specs.Exprs.{long, is_long, is_condition, are_alike, longs, conditions, alike, minus, negated, choice, expr_of, expr_step, ref_of, call_of, group_field, whole_group, group_name, group_place, column_place, call_field, column_call, bag_call}
+use Rattle.nova_pig_plan.specs.Sorts.{Over, Row, Bag, over, kinds, of_kind, when, has, are, chosen, column_agg, long_sort, condition_sort, sort_of, sort_step, Sorted}
 
 pub sort-Num : (o : Over) (n : ℤ) → sort_of o (p.Num n) ≡ sort_step o (PlanExpr-F.Num n)
 unfolding sort_of

@@ -1,5 +1,5 @@
 -- Which column a reference means.
-use Rattle.std.specs.Prelude.{ℕ, zero, suc, Bool, true, false, ◌&&◌, if◌then◌else◌, nat_eq, nat_lt, List, [], ◌∷◌, map, length, slice_index_or, Option, Some, None, Ok, Err}
+use Rattle.std.specs.Prelude.{ℕ, suc, Bool, false, ◌&&◌, if◌then◌else◌, nat_eq, nat_lt, List, [], ◌∷◌, map, length, slice_index_or, Option, Some, None, Ok, Err}
 use Rattle.std.specs.Cmp.Lexicographic.{pointwise}
 use Rattle.nova_value.specs.declared.value.Kind.{Kind}
 use Rattle.nova_value.specs.declared.value.Kind.TheVariants as kind

@@ -1,5 +1,5 @@
 -- The items of a FOREACH: what they make, and how it is named.
-use Rattle.std.specs.Prelude.{ℕ, zero, suc, Bool, true, false, List, [], ◌∷◌, ◌++◌, Option, Some, None, Ok, Err, slice_index_or}
+use Rattle.std.specs.Prelude.{ℕ, suc, List, [], ◌∷◌, ◌++◌, Option, Some, None, Ok, Err, slice_index_or}
 use Rattle.nova_value.specs.declared.value.Kind.{Kind}
 use Rattle.nova_value.specs.declared.value.Kind.TheVariants as kind
 use Rattle.nova_pig_plan.specs.Layer.{Layer}

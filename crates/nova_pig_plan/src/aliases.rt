@@ -8,6 +8,8 @@ use indexmap::IndexMap;
 use std::alloc::{AllocError, Global};
 use std::marker::Model;
 
+/// The aliases with their scopes, in the order of their statements: the number of an alias is that
+/// of its node.
 #[derive(Drop)]
 pub struct Aliases<'a> {
     map: IndexMap<&'a [u8], Scope>,
@@ -23,6 +25,7 @@ impl<'a> Model for Aliases<'a> {
 }
 
 impl<'a> Aliases<'a> {
+    /// No alias.
     pub fn new(alloc: Global) -> Aliases<'a>
         ensures { result ≡ [] }
     {
@@ -31,6 +34,7 @@ impl<'a> Aliases<'a> {
         }
     }
 
+    /// The number and the scope of an alias.
     pub fn find(&self, name: &[u8]) -> Option<(usize, &Scope)>
         ensures { option_map (λ p. (p.0, p.1.now)) result ≡ spec.find name.now 0 self.now }
     {
@@ -38,6 +42,7 @@ impl<'a> Aliases<'a> {
         Some((place, scope))
     }
 
+    /// One alias more.
     pub fn add(&mut self, name: &'a [u8], scope: Scope) -> Result<(), AllocError>
         requires { spec.find name.now 0 self.old ≡ None }
         ensures { OnOk result (self.new ≡ self.old ++ (name.now, scope) ∷ []) }

@@ -5,11 +5,11 @@ ghost use Rattle.nova_pig_plan.specs.Columns as spec;
 
 use crate::fault::{Cause, Stop};
 use crate::scope::Col;
-use nova_value::Kind;
 use nova_pig_tree::Field;
+use nova_value::Kind;
 use sqlite_items::Items;
 
-/// A place as the plan numbers it.
+/// A place as the plan numbers it. No list of the program is so long that this fails.
 pub(crate) fn narrow(place: usize) -> Result<u32, Stop>
     ensures { Gives result (Ok place) }
 {
@@ -19,12 +19,14 @@ pub(crate) fn narrow(place: usize) -> Result<u32, Stop>
     }
 }
 
+/// Whether both are the same text.
 pub(crate) fn same_text(a: &[u8], b: &[u8]) -> bool
     ensures { result ≡ spec.same_text a.now b.now }
 {
     a == b
 }
 
+/// Whether the text is there and is this one.
 fn is_text(text: &Option<Items<u8>>, name: &[u8]) -> bool
     ensures { result ≡ spec.is_text text.now name.now }
 {
@@ -34,6 +36,7 @@ fn is_text(text: &Option<Items<u8>>, name: &[u8]) -> bool
     }
 }
 
+/// The place of the one column of this name.
 pub(crate) fn place_named(columns: &[Col], name: &[u8]) -> Result<usize, Cause>
     ensures { result ≡ spec.the_one (spec.places (spec.is_named name.now) 0 columns.now) }
 {
@@ -49,6 +52,7 @@ pub(crate) fn place_named(columns: &[Col], name: &[u8]) -> Result<usize, Cause>
     found.ok_or(Cause::UnknownField)
 }
 
+/// The place of the one column of this name and origin.
 fn place_from(columns: &[Col], alias: &[u8], name: &[u8]) -> Result<usize, Cause>
     ensures { result ≡ spec.the_one (spec.places (spec.comes_from alias.now name.now) 0 columns.now) }
 {
@@ -64,6 +68,7 @@ fn place_from(columns: &[Col], alias: &[u8], name: &[u8]) -> Result<usize, Cause
     found.ok_or(Cause::UnknownField)
 }
 
+/// The place of the column that a reference means, anywhere but over a group.
 pub(crate) fn field_of(columns: &[Col], field: &Field) -> Result<u32, Stop>
     ensures { Gives result (spec.field_of columns.now field.now) }
 {
@@ -81,6 +86,7 @@ pub(crate) fn field_of(columns: &[Col], field: &Field) -> Result<u32, Stop>
     }
 }
 
+/// The kind of the column at a place.
 pub(crate) fn kind_at(columns: &[Col], at: u32) -> Kind
     ensures { result ≡ spec.kind_at columns.now at }
 {

@@ -9,11 +9,12 @@ use crate::columns::{field_of, kind_at, narrow, place_named, same_text};
 use crate::fault::{Cause, Stop};
 use crate::scope::{Col, Scope, Typed};
 use nova_pig_algebra::{PlanExpr, Sort};
-use nova_value::Kind;
 use nova_pig_tree::{CallKind, Expr, Field};
+use nova_value::Kind;
 use sqlite_items::Boxed;
 use std::alloc::Global;
 
+/// Whether it is a long.
 fn is_long(sort: Sort) -> bool
     ensures { result ≡ spec.is_long sort }
 {
@@ -24,6 +25,7 @@ fn is_long(sort: Sort) -> bool
     }
 }
 
+/// Whether it is a condition.
 pub(crate) fn is_condition(sort: Sort) -> bool
     ensures { result ≡ spec.is_condition sort }
 {
@@ -33,6 +35,7 @@ pub(crate) fn is_condition(sort: Sort) -> bool
     }
 }
 
+/// Whether both are values of one kind.
 fn are_alike(a: Sort, b: Sort) -> bool
     ensures { result ≡ spec.are_alike a b }
 {
@@ -51,6 +54,7 @@ fn are_alike(a: Sort, b: Sort) -> bool
     }
 }
 
+/// An expression with what it gives.
 fn typed(alloc: Global, expr: PlanExpr, sort: Sort) -> Result<Typed, Stop>
     ensures { Gives result (Ok (spec.typed expr sort)) }
 {
@@ -58,6 +62,7 @@ fn typed(alloc: Global, expr: PlanExpr, sort: Sort) -> Result<Typed, Stop>
     Ok(Typed { expr, sort })
 }
 
+/// The rules for kinds: WrongType where one is broken.
 pub(crate) fn check(holds: bool) -> Result<(), Stop>
     ensures { Gives result (if_not fault.WrongType holds tt) }
 {
@@ -68,6 +73,7 @@ pub(crate) fn check(holds: bool) -> Result<(), Stop>
     }
 }
 
+/// `group` alone, which is a value where there is one BY column.
 fn whole_group(alloc: Global, by: &[Col]) -> Result<Typed, Stop>
     ensures { Gives result (spec.whole_group by.now) }
 {
@@ -77,6 +83,7 @@ fn whole_group(alloc: Global, by: &[Col]) -> Result<Typed, Stop>
     }
 }
 
+/// A reference over a group and outside a call.
 fn group_field(alloc: Global, bag: &[u8], by: &[Col], field: &Field) -> Result<Typed, Stop>
     ensures { Gives result (spec.group_field bag.now by.now field.now) }
 {
@@ -103,6 +110,7 @@ fn group_field(alloc: Global, bag: &[u8], by: &[Col], field: &Field) -> Result<T
     }
 }
 
+/// A reference outside a call.
 fn ref_of(alloc: Global, scope: &Scope, field: &Field) -> Result<Typed, Stop>
     ensures { Gives result (spec.ref_of scope.now field.now) }
 {
@@ -120,12 +128,14 @@ fn ref_of(alloc: Global, scope: &Scope, field: &Field) -> Result<Typed, Stop>
     }
 }
 
+/// A call of the plan.
 fn agg(alloc: Global, kind: CallKind, column: Option<u32>, sort: Sort) -> Result<Typed, Stop>
     ensures { Gives result (Ok (spec.typed (p.Agg kind column) sort)) }
 {
     typed(alloc, PlanExpr::Agg { kind, column }, sort)
 }
 
+/// A call of a column: SUM of longs alone.
 fn column_call(alloc: Global, call: CallKind, kind: Kind, at: u32) -> Result<Typed, Stop>
     ensures { Gives result (spec.column_call call kind at) }
 {
@@ -140,6 +150,7 @@ fn column_call(alloc: Global, call: CallKind, kind: Kind, at: u32) -> Result<Typ
     }
 }
 
+/// A call of the bag: COUNT alone.
 fn bag_call(alloc: Global, call: CallKind) -> Result<Typed, Stop>
     ensures { Gives result (spec.bag_call call) }
 {
@@ -151,6 +162,7 @@ fn bag_call(alloc: Global, call: CallKind) -> Result<Typed, Stop>
     }
 }
 
+/// A call over the bag of the scope.
 fn call_field(
     alloc: Global,
     columns: &[Col],
@@ -168,6 +180,7 @@ fn call_field(
     }
 }
 
+/// A call: BagMisused where its name isn't the bag's, then its field, then its kind.
 fn call_of(
     alloc: Global,
     scope: &Scope,
@@ -193,6 +206,7 @@ fn call_of(
     }
 }
 
+/// The expression of the plan, or the first fault: its parts from left to right, then itself.
 pub fn expr_of(expr: &Expr, alloc: Global, scope: &Scope) -> Result<Typed, Stop>
     ensures { Gives result (spec.expr_of scope.now expr.now) }
 {

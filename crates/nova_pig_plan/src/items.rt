@@ -9,11 +9,12 @@ use crate::exprs::{check, expr_of};
 use crate::fault::{Cause, Stop};
 use crate::scope::{Col, Made, Scope};
 use nova_pig_algebra::{PlanExpr, Sort};
-use nova_value::{Kind, Str};
 use nova_pig_tree::{Expr, Field, Item};
+use nova_value::{Kind, Str};
 use sqlite_items::Items;
 use std::alloc::{AllocError, Global};
 
+/// A copy of a text that may be there.
 pub(crate) fn copy_text(
     alloc: Global,
     text: &Option<Items<u8>>,
@@ -26,6 +27,7 @@ pub(crate) fn copy_text(
     }
 }
 
+/// A copy of a column.
 pub(crate) fn copy_column(alloc: Global, column: &Col) -> Result<Col, AllocError>
     ensures { IfOk result (λ c. c ≡ column.now) }
 {
@@ -38,6 +40,7 @@ pub(crate) fn copy_column(alloc: Global, column: &Col) -> Result<Col, AllocError
     })
 }
 
+/// Whether both are one kind.
 pub(crate) fn same_kind(a: Kind, b: Kind) -> bool
     ensures { result ≡ spec.same_kind a b }
 {
@@ -65,6 +68,7 @@ fn label(alloc: Global, kind: Kind, name: &[u8]) -> Result<Col, AllocError>
     })
 }
 
+/// A label without name and origin.
 fn unnamed() -> Col
     ensures { result ≡ spec.unnamed }
 {
@@ -75,6 +79,7 @@ fn unnamed() -> Col
     }
 }
 
+/// A copy of the column at a place.
 pub(crate) fn column_at(alloc: Global, columns: &[Col], at: u32) -> Result<Col, AllocError>
     ensures { IfOk result (λ c. c ≡ spec.column_at columns.now at) }
 {
@@ -84,6 +89,7 @@ pub(crate) fn column_at(alloc: Global, columns: &[Col], at: u32) -> Result<Col, 
     }
 }
 
+/// How an item that is a field alone is named.
 fn field_label(alloc: Global, scope: &Scope, field: &Field) -> Result<Col, Stop>
     ensures { Gives result (Ok (spec.field_label scope.now field.now)) }
 {
@@ -109,6 +115,7 @@ fn field_label(alloc: Global, scope: &Scope, field: &Field) -> Result<Col, Stop>
     }
 }
 
+/// How an item without AS is named.
 fn expr_label(alloc: Global, scope: &Scope, expr: &Expr) -> Result<Col, Stop>
     ensures { Gives result (Ok (spec.layer_label scope.now (out-Expr expr.now))) }
 {
@@ -118,6 +125,7 @@ fn expr_label(alloc: Global, scope: &Scope, expr: &Expr) -> Result<Col, Stop>
     }
 }
 
+/// How an item is named.
 fn item_label(alloc: Global, scope: &Scope, name: &Option<Str>, expr: &Expr) -> Result<Col, Stop>
     ensures { Gives result (Ok (spec.item_label scope.now name.now expr.now)) }
 {
@@ -127,6 +135,7 @@ fn item_label(alloc: Global, scope: &Scope, name: &Option<Str>, expr: &Expr) -> 
     }
 }
 
+/// The kind of an item: it is a value, and of the kind after AS.
 fn value_kind(sort: Sort, kind: Option<Kind>) -> Result<Kind, Stop>
     ensures { Gives result (spec.value_kind sort kind) }
 {
@@ -142,6 +151,7 @@ fn value_kind(sort: Sort, kind: Option<Kind>) -> Result<Kind, Stop>
     }
 }
 
+/// One item more.
 fn add(made: &mut Made, expr: PlanExpr, column: Col) -> Result<(), Stop>
     ensures { GivesBy (λ _. made.new) result (Ok (spec.with_item made.old expr column)) }
 {
@@ -150,6 +160,7 @@ fn add(made: &mut Made, expr: PlanExpr, column: Col) -> Result<(), Stop>
     Ok(())
 }
 
+/// `*`: each column.
 fn add_all(alloc: Global, made: &mut Made, columns: &[Col]) -> Result<(), Stop>
     ensures { GivesBy (λ _. made.new) result (Ok (spec.with_all 0 made.old columns.now)) }
 {
@@ -161,6 +172,7 @@ fn add_all(alloc: Global, made: &mut Made, columns: &[Col]) -> Result<(), Stop>
     Ok(())
 }
 
+/// The BY columns, with the origin `group`.
 fn add_flat(alloc: Global, made: &mut Made, by: &[Col]) -> Result<(), Stop>
     ensures { GivesBy (λ _. made.new) result (Ok (spec.with_flat 0 made.old by.now)) }
 {
@@ -181,6 +193,7 @@ fn add_flat(alloc: Global, made: &mut Made, by: &[Col]) -> Result<(), Stop>
     Ok(())
 }
 
+/// `FLATTEN(group)`.
 fn flatten(alloc: Global, made: &mut Made, by: &[Col]) -> Result<(), Stop>
     ensures { GivesBy (λ _. made.new) result (Ok (spec.flattened made.old by.now)) }
 {
@@ -193,6 +206,7 @@ fn flatten(alloc: Global, made: &mut Made, by: &[Col]) -> Result<(), Stop>
     }
 }
 
+/// An expression as an item.
 fn add_value(
     alloc: Global,
     scope: &Scope,
@@ -217,6 +231,7 @@ fn add_value(
     )
 }
 
+/// One item of a FOREACH.
 pub(crate) fn add_item(
     alloc: Global,
     scope: &Scope,
@@ -246,6 +261,7 @@ pub(crate) fn add_item(
     }
 }
 
+/// The items of a FOREACH, from left to right, or the first fault.
 pub(crate) fn items_of(alloc: Global, scope: &Scope, items: &[Item]) -> Result<Made, Stop>
     ensures { Gives result (spec.items_of scope.now spec.nothing items.now) }
 {

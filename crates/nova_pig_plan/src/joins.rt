@@ -11,11 +11,12 @@ use crate::items::{copy_text, same_kind};
 use crate::scope::{Channels, Col, Defined, Scope};
 use crate::statements::{columns_at, copy_columns, defined, fields_of, known, test, ungrouped};
 use nova_pig_algebra::Node;
-use nova_value::{Column, Name, Schema};
 use nova_pig_tree::{Field, Str};
+use nova_value::{Column, Name, Schema};
 use sqlite_items::Items;
 use std::alloc::{AllocError, Global};
 
+/// Whether both have the same kinds, in order.
 fn same_kinds(a: &[Col], b: &[Col]) -> bool
     ensures { result ≡ spec.same_kinds a.now b.now }
 {
@@ -30,6 +31,7 @@ fn same_kinds(a: &[Col], b: &[Col]) -> bool
     true
 }
 
+/// The columns of a channel: its names, without origin.
 fn channel_columns(alloc: Global, columns: &[Column]) -> Result<Items<Col>, AllocError>
     ensures { IfOk result (λ cs. cs ≡ spec.channel_columns columns.now) }
 {
@@ -66,6 +68,7 @@ fn add_from(
     Ok(())
 }
 
+/// The first input of this name, with its number.
 fn input_of<'c>(inputs: &'c [(Name, Schema)], name: &[u8]) -> Option<(usize, &'c Schema)>
     ensures { option_map (λ p. (p.0, p.1.now)) result ≡ spec.find name.now 0 inputs.now }
 {
@@ -77,6 +80,7 @@ fn input_of<'c>(inputs: &'c [(Name, Schema)], name: &[u8]) -> Option<(usize, &'c
     None
 }
 
+/// LOAD: UnknownChannel where it names no input.
 pub(crate) fn load(alloc: Global, channels: &Channels, channel: &[u8]) -> Result<Defined, Stop>
     ensures { Gives result (spec.load channels.now channel.now) }
 {
@@ -109,6 +113,7 @@ fn both_sides(
     Ok(all)
 }
 
+/// Whether the columns at these places have the same kinds, in order.
 fn same_kinds_at(
     alloc: Global,
     a: &[Col],
@@ -132,6 +137,7 @@ struct Side<'a> {
     by: &'a [Field],
 }
 
+/// JOIN of rows: its BY lists from left to right, their lengths, their kinds, and the width.
 fn join_rows(alloc: Global, left: &Side<'_>, right: &Side<'_>) -> Result<Defined, Stop>
     ensures { Gives result (spec.join_rows left.now.at left.now.alias.now left.now.columns.now left.now.by.now right.now.at right.now.alias.now right.now.columns.now right.now.by.now) }
 {
@@ -158,6 +164,7 @@ fn join_rows(alloc: Global, left: &Side<'_>, right: &Side<'_>) -> Result<Defined
     )
 }
 
+/// JOIN: both aliases, that neither is grouped, and then its BY lists.
 pub(crate) fn join(
     alloc: Global,
     done: &Aliases<'_>,
@@ -187,6 +194,7 @@ pub(crate) fn join(
     join_rows(alloc, &left, &right)
 }
 
+/// The columns of an alias that is defined and not grouped.
 fn rows_of<'s>(done: &'s Aliases<'_>, name: &[u8]) -> Result<&'s [Col], Stop>
     ensures { GivesBy (λ cs. cs.now) result (spec.rows_of done.now name.now) }
 {
@@ -194,6 +202,7 @@ fn rows_of<'s>(done: &'s Aliases<'_>, name: &[u8]) -> Result<&'s [Col], Stop>
     ungrouped(scope)
 }
 
+/// The numbers of the arms, or UnknownAlias.
 fn all_known(alloc: Global, done: &Aliases<'_>, arms: &[Str]) -> Result<Items<u32>, Stop>
     ensures { Gives result (spec.all_known done.now [] arms.now) }
 {
@@ -205,6 +214,7 @@ fn all_known(alloc: Global, done: &Aliases<'_>, arms: &[Str]) -> Result<Items<u3
     Ok(places)
 }
 
+/// BagMisused where an arm is grouped.
 fn none_grouped(done: &Aliases<'_>, arms: &[Str]) -> Result<(), Stop>
     ensures { Gives result (spec.none_grouped done.now arms.now) }
 {
@@ -214,6 +224,7 @@ fn none_grouped(done: &Aliases<'_>, arms: &[Str]) -> Result<(), Stop>
     Ok(())
 }
 
+/// SchemaDiffers where an arm's kinds aren't these columns'.
 fn all_alike(done: &Aliases<'_>, columns: &[Col], arms: &[Str]) -> Result<(), Stop>
     ensures { Gives result (spec.all_alike done.now columns.now arms.now) }
 {
@@ -224,6 +235,7 @@ fn all_alike(done: &Aliases<'_>, columns: &[Col], arms: &[Str]) -> Result<(), St
     Ok(())
 }
 
+/// The columns of the first arm.
 fn first_rows<'s>(done: &'s Aliases<'_>, arms: &[Str]) -> Result<&'s [Col], Stop>
     ensures { GivesBy (λ cs. cs.now) result (spec.first_rows done.now arms.now) }
 {
@@ -233,6 +245,7 @@ fn first_rows<'s>(done: &'s Aliases<'_>, arms: &[Str]) -> Result<&'s [Col], Stop
     }
 }
 
+/// UNION: each rule over all arms before the next; it has the first arm's columns.
 pub(crate) fn union(alloc: Global, done: &Aliases<'_>, arms: &[Str]) -> Result<Defined, Stop>
     ensures { Gives result (spec.union done.now arms.now) }
 {
@@ -247,6 +260,7 @@ pub(crate) fn union(alloc: Global, done: &Aliases<'_>, arms: &[Str]) -> Result<D
     })
 }
 
+/// STORE: its alias, its channel, that the alias is not grouped, and the schemas.
 pub(crate) fn store(
     alloc: Global,
     channels: &Channels,

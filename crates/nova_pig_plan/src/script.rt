@@ -17,6 +17,7 @@ use nova_pig_tree::{Body, Op, Statement};
 use sqlite_items::Items;
 use std::alloc::Global;
 
+/// What an operator defines, or its first fault.
 fn op_of(alloc: Global, channels: &Channels, done: &Aliases<'_>, op: &Op) -> Result<Defined, Stop>
     ensures { Gives result (spec.op_of channels.now done.now op.now) }
 {
@@ -43,6 +44,7 @@ fn op_of(alloc: Global, channels: &Channels, done: &Aliases<'_>, op: &Op) -> Res
     }
 }
 
+/// What a statement defines: AliasTwice comes before the faults of the operator.
 fn define(
     alloc: Global,
     channels: &Channels,

@@ -14,6 +14,7 @@ use nova_pig_tree::{Expr, Field, Item};
 use sqlite_items::Items;
 use std::alloc::{AllocError, Global};
 
+/// The fault, where the test fails.
 pub(crate) fn test(cause: Cause, holds: bool) -> Result<(), Stop>
     ensures { Gives result (spec.test cause holds) }
 {
@@ -24,6 +25,7 @@ pub(crate) fn test(cause: Cause, holds: bool) -> Result<(), Stop>
     }
 }
 
+/// The number and the scope of an alias, or UnknownAlias.
 pub(crate) fn known<'s>(done: &'s Aliases<'_>, name: &[u8]) -> Result<(u32, &'s Scope), Stop>
     ensures { GivesBy (λ k. (k.0, k.1.now)) result (spec.known done.now name.now) }
 {
@@ -36,6 +38,7 @@ pub(crate) fn known<'s>(done: &'s Aliases<'_>, name: &[u8]) -> Result<(u32, &'s 
     }
 }
 
+/// The columns of an alias, or BagMisused where it is grouped.
 pub(crate) fn ungrouped(scope: &Scope) -> Result<&[Col], Stop>
     ensures { GivesBy (λ cs. cs.now) result (spec.ungrouped scope.now) }
 {
@@ -49,6 +52,7 @@ pub(crate) fn ungrouped(scope: &Scope) -> Result<&[Col], Stop>
     }
 }
 
+/// Equal columns.
 pub(crate) fn copy_columns(alloc: Global, columns: &[Col]) -> Result<Items<Col>, AllocError>
     ensures { IfOk result (λ cs. cs ≡ columns.now) }
 {
@@ -59,6 +63,7 @@ pub(crate) fn copy_columns(alloc: Global, columns: &[Col]) -> Result<Items<Col>,
     Ok(all)
 }
 
+/// A node with its columns, or TooWide where these are more than 64.
 pub(crate) fn defined(node: Node, columns: Items<Col>) -> Result<Defined, Stop>
     ensures { Gives result (spec.defined node columns) }
 {
@@ -72,6 +77,7 @@ pub(crate) fn defined(node: Node, columns: Items<Col>) -> Result<Defined, Stop>
     }
 }
 
+/// The places that references mean, from left to right.
 pub(crate) fn fields_of(
     alloc: Global,
     columns: &[Col],
@@ -86,6 +92,7 @@ pub(crate) fn fields_of(
     Ok(places)
 }
 
+/// Copies of the columns at these places.
 pub(crate) fn columns_at(
     alloc: Global,
     columns: &[Col],
@@ -100,6 +107,7 @@ pub(crate) fn columns_at(
     Ok(all)
 }
 
+/// FILTER: it keeps the columns.
 pub(crate) fn filter_rows(
     alloc: Global,
     done: &Aliases<'_>,
@@ -123,6 +131,7 @@ pub(crate) fn filter_rows(
     })
 }
 
+/// FOREACH over rows or over groups.
 pub(crate) fn foreach(
     alloc: Global,
     done: &Aliases<'_>,
@@ -142,6 +151,7 @@ pub(crate) fn foreach(
     )
 }
 
+/// GROUP: a bag, named by the alias, and the BY columns.
 pub(crate) fn group(
     alloc: Global,
     done: &Aliases<'_>,
@@ -166,6 +176,7 @@ pub(crate) fn group(
     })
 }
 
+/// DISTINCT: it keeps the columns.
 pub(crate) fn distinct(alloc: Global, done: &Aliases<'_>, from: &[u8]) -> Result<Defined, Stop>
     ensures { Gives result (spec.distinct done.now from.now) }
 {

@@ -21,11 +21,23 @@ macro_rules! schema {
 /// The inputs of every case, in this order: raw, pages, slow, tagged, stats.
 fn inputs(alloc: Global) -> Result<Items<(Name, Schema)>, AllocError> {
     let mut all = Items::new(alloc);
-    all.push((Name::new("raw"), schema!(alloc; "id" Long, "url" Text, "ms" Long)?))?;
+    all.push((
+        Name::new("raw"),
+        schema!(alloc; "id" Long, "url" Text, "ms" Long)?,
+    ))?;
     all.push((Name::new("pages"), schema!(alloc; "url" Text, "tag" Text)?))?;
-    all.push((Name::new("slow"), schema!(alloc; "id" Long, "url" Text, "ms" Long)?))?;
-    all.push((Name::new("tagged"), schema!(alloc; "id" Long, "tag" Text, "ms" Long)?))?;
-    all.push((Name::new("stats"), schema!(alloc; "tag" Text, "n" Long, "total" Long, "worst" Long)?))?;
+    all.push((
+        Name::new("slow"),
+        schema!(alloc; "id" Long, "url" Text, "ms" Long)?,
+    ))?;
+    all.push((
+        Name::new("tagged"),
+        schema!(alloc; "id" Long, "tag" Text, "ms" Long)?,
+    ))?;
+    all.push((
+        Name::new("stats"),
+        schema!(alloc; "tag" Text, "n" Long, "total" Long, "worst" Long)?,
+    ))?;
     Ok(all)
 }
 
@@ -54,7 +66,12 @@ fn channels(alloc: Global, kinds: &str) -> Result<Channels, AllocError> {
 
 /// What each script is, the kinds of the output, the script without its STORE, and its plan.
 const PLANS: [(&str, &str, &str, &str); 24] = [
-    ("the task pick", "LTL", "r = LOAD 'raw'; o = FILTER r BY ms >= 100;", "load 0; filter 0 (#2 >= 100); store 1; key 0"),
+    (
+        "the task pick",
+        "LTL",
+        "r = LOAD 'raw'; o = FILTER r BY ms >= 100;",
+        "load 0; filter 0 (#2 >= 100); store 1; key 0",
+    ),
     (
         "the task tag",
         "LTL",
@@ -73,11 +90,36 @@ const PLANS: [(&str, &str, &str, &str); 24] = [
         "s = LOAD 'stats'; g = GROUP s BY n; o = FOREACH g GENERATE group, COUNT(s);",
         "load 4; group 0 1; foreach 1, @0, count; store 2; key 0",
     ),
-    ("LOAD has the channel's key", "LTL", "o = LOAD 'raw';", "load 0; store 0; key 0"),
-    ("FOREACH moves a key", "LL", "r = LOAD 'raw'; o = FOREACH r GENERATE ms, id;", "load 0; foreach 0, #2, #0; store 1; key 1"),
-    ("the first item is the key", "LL", "r = LOAD 'raw'; o = FOREACH r GENERATE $0, id;", "load 0; foreach 0, #0, #0; store 1; key 0"),
-    ("FOREACH without a key column", "L", "r = LOAD 'raw'; o = FOREACH r GENERATE ms;", "load 0; foreach 0, #2; store 1; no key"),
-    ("a computed item is no key", "L", "r = LOAD 'raw'; o = FOREACH r GENERATE id + 0;", "load 0; foreach 0, (#0 + 0); store 1; no key"),
+    (
+        "LOAD has the channel's key",
+        "LTL",
+        "o = LOAD 'raw';",
+        "load 0; store 0; key 0",
+    ),
+    (
+        "FOREACH moves a key",
+        "LL",
+        "r = LOAD 'raw'; o = FOREACH r GENERATE ms, id;",
+        "load 0; foreach 0, #2, #0; store 1; key 1",
+    ),
+    (
+        "the first item is the key",
+        "LL",
+        "r = LOAD 'raw'; o = FOREACH r GENERATE $0, id;",
+        "load 0; foreach 0, #0, #0; store 1; key 0",
+    ),
+    (
+        "FOREACH without a key column",
+        "L",
+        "r = LOAD 'raw'; o = FOREACH r GENERATE ms;",
+        "load 0; foreach 0, #2; store 1; no key",
+    ),
+    (
+        "a computed item is no key",
+        "L",
+        "r = LOAD 'raw'; o = FOREACH r GENERATE id + 0;",
+        "load 0; foreach 0, (#0 + 0); store 1; no key",
+    ),
     (
         "`*` is written out",
         "LTL",
@@ -132,14 +174,24 @@ const PLANS: [(&str, &str, &str, &str); 24] = [
         "r = LOAD 'raw'; a = FOREACH r GENERATE id, 1 AS k; b = FOREACH r GENERATE id, 2 AS k; c = FILTER b BY id > 0; d = FOREACH c GENERATE id, k; o = UNION a, d;",
         "load 0; foreach 0, #0, 1; foreach 0, #0, 2; filter 2 (#0 > 0); foreach 3, #0, #1; union 1 4; store 5; key 0 1",
     ),
-    ("UNION without a constant", "LTL", "r = LOAD 'raw'; s = LOAD 'slow'; o = UNION r, s;", "load 0; load 2; union 0 1; store 2; no key"),
+    (
+        "UNION without a constant",
+        "LTL",
+        "r = LOAD 'raw'; s = LOAD 'slow'; o = UNION r, s;",
+        "load 0; load 2; union 0 1; store 2; no key",
+    ),
     (
         "UNION with one constant twice",
         "LL",
         "r = LOAD 'raw'; a = FOREACH r GENERATE id, 1; b = FOREACH r GENERATE id, 1; o = UNION a, b;",
         "load 0; foreach 0, #0, 1; foreach 0, #0, 1; union 1 2; store 3; no key",
     ),
-    ("DISTINCT keeps a key", "LTL", "r = LOAD 'raw'; o = DISTINCT r;", "load 0; distinct 0; store 1; key 0"),
+    (
+        "DISTINCT keeps a key",
+        "LTL",
+        "r = LOAD 'raw'; o = DISTINCT r;",
+        "load 0; distinct 0; store 1; key 0",
+    ),
     (
         "DISTINCT of rows without one",
         "TL",
@@ -174,65 +226,235 @@ fn plans(rt: HostRuntime) -> Result<(), Fail> {
 /// What each script is, the script over raw as `r`, pages as `p` and raw by url as `g`, and its
 /// fault. The output has raw's kinds.
 const FAULTS: [(&str, &str, &str); 46] = [
-    ("a name that no column has", "s = FILTER r BY speed > 1;", "unknown field 4"),
-    ("a position past the last", "s = FILTER r BY $3 > 1;", "unknown field 4"),
-    ("a name of another origin", "s = FILTER r BY r::id > 1;", "unknown field 4"),
+    (
+        "a name that no column has",
+        "s = FILTER r BY speed > 1;",
+        "unknown field 4",
+    ),
+    (
+        "a position past the last",
+        "s = FILTER r BY $3 > 1;",
+        "unknown field 4",
+    ),
+    (
+        "a name of another origin",
+        "s = FILTER r BY r::id > 1;",
+        "unknown field 4",
+    ),
     ("an alias twice", "r = LOAD 'raw';", "alias twice 4"),
     ("an unknown operand", "s = DISTINCT q;", "unknown alias 4"),
-    ("an unknown stored alias", "STORE q INTO 'out';", "unknown alias 4"),
-    ("an operand that is defined later", "s = DISTINCT t; t = DISTINCT r;", "unknown alias 4"),
+    (
+        "an unknown stored alias",
+        "STORE q INTO 'out';",
+        "unknown alias 4",
+    ),
+    (
+        "an operand that is defined later",
+        "s = DISTINCT t; t = DISTINCT r;",
+        "unknown alias 4",
+    ),
     ("LOAD of no input", "s = LOAD 'out';", "unknown channel 4"),
-    ("STORE of another channel", "STORE r INTO 'raw';", "unknown channel 4"),
-    ("two columns of a name", "j = JOIN r BY url, p BY url; s = FILTER j BY url == 'a';", "ambiguous 5"),
-    ("a text in a sum", "s = FILTER r BY url + 1 > 2;", "wrong type 4"),
-    ("a long against a text", "s = FILTER r BY url == 1;", "wrong type 4"),
-    ("a value as a condition", "s = FILTER r BY id;", "wrong type 4"),
-    ("a condition as an item", "s = FOREACH r GENERATE id > 1;", "wrong type 4"),
-    ("two kinds after `?`", "s = FOREACH r GENERATE (id > 1 ? id : url);", "wrong type 4"),
-    ("another kind after AS", "s = FOREACH r GENERATE id AS n: chararray;", "wrong type 4"),
-    ("a group of two columns alone", "h = GROUP r BY (id, url); s = FOREACH h GENERATE group;", "wrong type 5"),
-    ("SUM of a bag", "s = FOREACH g GENERATE SUM(r);", "wrong type 4"),
-    ("SUM of a text", "s = FOREACH g GENERATE SUM(r.url);", "wrong type 4"),
-    ("JOIN by two kinds", "j = JOIN r BY id, p BY url;", "wrong type 4"),
-    ("UNION of two schemas", "u = UNION r, p;", "schema differs 4"),
-    ("STORE of another schema", "STORE p INTO 'out';", "schema differs 4"),
-    ("JOIN by lists of two lengths", "j = JOIN r BY (url, id), p BY url;", "schema differs 4"),
+    (
+        "STORE of another channel",
+        "STORE r INTO 'raw';",
+        "unknown channel 4",
+    ),
+    (
+        "two columns of a name",
+        "j = JOIN r BY url, p BY url; s = FILTER j BY url == 'a';",
+        "ambiguous 5",
+    ),
+    (
+        "a text in a sum",
+        "s = FILTER r BY url + 1 > 2;",
+        "wrong type 4",
+    ),
+    (
+        "a long against a text",
+        "s = FILTER r BY url == 1;",
+        "wrong type 4",
+    ),
+    (
+        "a value as a condition",
+        "s = FILTER r BY id;",
+        "wrong type 4",
+    ),
+    (
+        "a condition as an item",
+        "s = FOREACH r GENERATE id > 1;",
+        "wrong type 4",
+    ),
+    (
+        "two kinds after `?`",
+        "s = FOREACH r GENERATE (id > 1 ? id : url);",
+        "wrong type 4",
+    ),
+    (
+        "another kind after AS",
+        "s = FOREACH r GENERATE id AS n: chararray;",
+        "wrong type 4",
+    ),
+    (
+        "a group of two columns alone",
+        "h = GROUP r BY (id, url); s = FOREACH h GENERATE group;",
+        "wrong type 5",
+    ),
+    (
+        "SUM of a bag",
+        "s = FOREACH g GENERATE SUM(r);",
+        "wrong type 4",
+    ),
+    (
+        "SUM of a text",
+        "s = FOREACH g GENERATE SUM(r.url);",
+        "wrong type 4",
+    ),
+    (
+        "JOIN by two kinds",
+        "j = JOIN r BY id, p BY url;",
+        "wrong type 4",
+    ),
+    (
+        "UNION of two schemas",
+        "u = UNION r, p;",
+        "schema differs 4",
+    ),
+    (
+        "STORE of another schema",
+        "STORE p INTO 'out';",
+        "schema differs 4",
+    ),
+    (
+        "JOIN by lists of two lengths",
+        "j = JOIN r BY (url, id), p BY url;",
+        "schema differs 4",
+    ),
     ("a grouped operand", "s = DISTINCT g;", "bag misused 4"),
-    ("a call in FILTER", "s = FILTER r BY COUNT(r) > 1;", "bag misused 4"),
-    ("`*` over a group", "s = FOREACH g GENERATE *;", "bag misused 4"),
-    ("the bag by its place", "s = FOREACH g GENERATE $1;", "bag misused 4"),
-    ("the bag by its name", "s = FOREACH g GENERATE r;", "bag misused 4"),
-    ("FLATTEN over rows", "s = FOREACH r GENERATE FLATTEN(group);", "bag misused 4"),
-    ("a call of another bag", "s = FOREACH g GENERATE COUNT(g);", "bag misused 4"),
-    ("a field over a group", "s = FOREACH g GENERATE url;", "unknown field 4"),
+    (
+        "a call in FILTER",
+        "s = FILTER r BY COUNT(r) > 1;",
+        "bag misused 4",
+    ),
+    (
+        "`*` over a group",
+        "s = FOREACH g GENERATE *;",
+        "bag misused 4",
+    ),
+    (
+        "the bag by its place",
+        "s = FOREACH g GENERATE $1;",
+        "bag misused 4",
+    ),
+    (
+        "the bag by its name",
+        "s = FOREACH g GENERATE r;",
+        "bag misused 4",
+    ),
+    (
+        "FLATTEN over rows",
+        "s = FOREACH r GENERATE FLATTEN(group);",
+        "bag misused 4",
+    ),
+    (
+        "a call of another bag",
+        "s = FOREACH g GENERATE COUNT(g);",
+        "bag misused 4",
+    ),
+    (
+        "a field over a group",
+        "s = FOREACH g GENERATE url;",
+        "unknown field 4",
+    ),
     ("no STORE", "s = DISTINCT r;", "no store 5"),
-    ("an alias twice before an unknown operand", "r = DISTINCT q;", "alias twice 4"),
-    ("an unknown alias before an unknown channel", "STORE q INTO 'raw';", "unknown alias 4"),
-    ("an unknown channel before a bag", "STORE g INTO 'raw';", "unknown channel 4"),
-    ("a bag before another schema", "STORE g INTO 'out';", "bag misused 4"),
-    ("an unknown right alias before a left bag", "j = JOIN g BY url, q BY url;", "unknown alias 4"),
-    ("a right bag before a left field", "j = JOIN r BY speed, g BY url;", "bag misused 4"),
-    ("a field before lists of two lengths", "j = JOIN r BY (url, speed), p BY url;", "unknown field 4"),
-    ("lists of two lengths before two kinds", "j = JOIN r BY (id, url), p BY url;", "schema differs 4"),
-    ("an unknown arm before a bag", "u = UNION g, q;", "unknown alias 4"),
-    ("a bag before two schemas", "u = UNION r, p, g;", "bag misused 4"),
-    ("a left part before a right one", "s = FILTER r BY url + 1 > speed;", "wrong type 4"),
-    ("the parts before the expression", "s = FILTER r BY url + speed > 1;", "unknown field 4"),
-    ("another bag before a call's field", "s = FOREACH g GENERATE SUM(g.speed);", "bag misused 4"),
-    ("a call's field before its kind", "s = FOREACH g GENERATE SUM(r.speed);", "unknown field 4"),
+    (
+        "an alias twice before an unknown operand",
+        "r = DISTINCT q;",
+        "alias twice 4",
+    ),
+    (
+        "an unknown alias before an unknown channel",
+        "STORE q INTO 'raw';",
+        "unknown alias 4",
+    ),
+    (
+        "an unknown channel before a bag",
+        "STORE g INTO 'raw';",
+        "unknown channel 4",
+    ),
+    (
+        "a bag before another schema",
+        "STORE g INTO 'out';",
+        "bag misused 4",
+    ),
+    (
+        "an unknown right alias before a left bag",
+        "j = JOIN g BY url, q BY url;",
+        "unknown alias 4",
+    ),
+    (
+        "a right bag before a left field",
+        "j = JOIN r BY speed, g BY url;",
+        "bag misused 4",
+    ),
+    (
+        "a field before lists of two lengths",
+        "j = JOIN r BY (url, speed), p BY url;",
+        "unknown field 4",
+    ),
+    (
+        "lists of two lengths before two kinds",
+        "j = JOIN r BY (id, url), p BY url;",
+        "schema differs 4",
+    ),
+    (
+        "an unknown arm before a bag",
+        "u = UNION g, q;",
+        "unknown alias 4",
+    ),
+    (
+        "a bag before two schemas",
+        "u = UNION r, p, g;",
+        "bag misused 4",
+    ),
+    (
+        "a left part before a right one",
+        "s = FILTER r BY url + 1 > speed;",
+        "wrong type 4",
+    ),
+    (
+        "the parts before the expression",
+        "s = FILTER r BY url + speed > 1;",
+        "unknown field 4",
+    ),
+    (
+        "another bag before a call's field",
+        "s = FOREACH g GENERATE SUM(g.speed);",
+        "bag misused 4",
+    ),
+    (
+        "a call's field before its kind",
+        "s = FOREACH g GENERATE SUM(r.speed);",
+        "unknown field 4",
+    ),
 ];
 
 #[test]
 fn faults(rt: HostRuntime) -> Result<(), Fail> {
     let channels = channels(rt.alloc(), "LTL")?;
     for (what, script, fault) in &FAULTS {
-        let text = format!(in rt.alloc(); "r = LOAD 'raw'; p = LOAD 'pages'; g = GROUP r BY url; {script}")?;
+        let text = format!(in rt.alloc();
+            "r = LOAD 'raw'; p = LOAD 'pages'; g = GROUP r BY url; {script}"
+        )?;
         let found = show(rt.alloc(), text.as_str(), &channels)?;
         assert_eq!(rt; found.as_slice(), fault.as_bytes(), "{what}");
     }
     let speed = "a = LOAD 'raw'; b = FILTER a BY speed > 1; STORE b INTO 'out';";
     let found = show(rt.alloc(), speed, &channels)?;
-    assert_eq!(rt; found.as_slice(), "unknown field 2".as_bytes(), "the field speed");
+    assert_eq!(rt;
+        found.as_slice(),
+        "unknown field 2".as_bytes(),
+        "the field speed"
+    );
     let found = show(rt.alloc(), "", &channels)?;
     assert_eq!(rt; found.as_slice(), "no store 1".as_bytes(), "no statement");
     let found = show(rt.alloc(), ";", &channels)?;
@@ -244,9 +466,15 @@ fn faults(rt: HostRuntime) -> Result<(), Fail> {
 fn widths(rt: HostRuntime) -> Result<(), Fail> {
     let channels = channels(rt.alloc(), "LTL")?;
     let all = "*, *, *, *, *, *, *, *, *, *, *, *, *, *, *, *, *, *, *, *, *";
-    let cases = [("id", "schema differs 3"), ("id, id", "too wide 2"), ("id, id, speed", "unknown field 2")];
+    let cases = [
+        ("id", "schema differs 3"),
+        ("id, id", "too wide 2"),
+        ("id, id, speed", "unknown field 2"),
+    ];
     for (more, fault) in &cases {
-        let text = format!(in rt.alloc(); "r = LOAD 'raw'; o = FOREACH r GENERATE {all}, {more}; STORE o INTO 'out';")?;
+        let text = format!(in rt.alloc();
+            "r = LOAD 'raw'; o = FOREACH r GENERATE {all}, {more}; STORE o INTO 'out';"
+        )?;
         let found = show(rt.alloc(), text.as_str(), &channels)?;
         assert_eq!(rt; found.as_slice(), fault.as_bytes(), "{more}");
     }

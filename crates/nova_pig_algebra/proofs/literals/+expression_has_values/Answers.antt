@@ -1,4 +1,4 @@
-use Rattle.std.proofs.Common.{rules, arith, ◌≡◌}
+use Rattle.std.proofs.Common.{rules, arith}
 use Rattle.std.proofs.lemmas.Grind.{common_steps}
 use Rattle.nova_pig_algebra.proofs.Literal as laws
 use Rattle.nova_pig_algebra.proofs.literals.+expression_has_values.Goals as goal

@@ -1,6 +1,4 @@
-use Rattle.std.proofs.Common.{◌≡◌, ◌++◌, ◌+◌, ◌-◌, take, drop, map, List, ℕ}
-use Rattle.nova_pig_algebra.specs.Keys as spec
-use Rattle.nova_pig_key.specs.Steps as step
+use Rattle.std.proofs.Common.{◌≡◌, ◌++◌, take}
 use Rattle.nova_pig_key.proofs.constants.push_constants.Given as goal
 
 abbrev pub invariant-loop-constant : goal.invariant-loop-constant

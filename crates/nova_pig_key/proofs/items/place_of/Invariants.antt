@@ -1,6 +1,5 @@
-use Rattle.std.proofs.Common.{◌≡◌, ◌++◌, ◌+◌, ◌-◌, take, drop, map, List, ℕ}
+use Rattle.std.proofs.Common.{◌≡◌, drop}
 use Rattle.nova_pig_algebra.specs.Keys as spec
-use Rattle.nova_pig_key.specs.Steps as step
 use Rattle.nova_pig_key.proofs.items.place_of.Given as goal
 
 abbrev pub invariant-loop-at : goal.invariant-loop-at

@@ -1,5 +1,4 @@
-use Rattle.std.proofs.Common.{◌≡◌, ◌++◌, ◌+◌, ◌-◌, take, drop, map, List, [], ℕ}
-use Rattle.nova_pig_algebra.specs.Keys as spec
+use Rattle.std.proofs.Common.{◌≡◌, drop, []}
 use Rattle.nova_pig_key.specs.Steps as step
 use Rattle.nova_pig_key.proofs.keys.all_facts.Given as goal
 

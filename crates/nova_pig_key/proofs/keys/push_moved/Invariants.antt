@@ -1,6 +1,4 @@
-use Rattle.std.proofs.Common.{◌≡◌, ◌++◌, ◌+◌, ◌-◌, take, drop, map, List, ℕ}
-use Rattle.nova_pig_algebra.specs.Keys as spec
-use Rattle.nova_pig_key.specs.Steps as step
+use Rattle.std.proofs.Common.{◌≡◌, ◌++◌, ◌+◌, take, map}
 use Rattle.nova_pig_key.proofs.keys.push_moved.Given as goal
 
 abbrev pub invariant-loop-column : goal.invariant-loop-column

@@ -1,5 +1,4 @@
-use Rattle.std.proofs.Common.{length, ◌≡◌, ◌++◌, IfOk, OnOk, map, ◌+◌, ℕ, ◌-◌, ◌*◌, ◌<◌, ◌≤◌}
-use Rattle.nova_pig_algebra.specs.Keys as spec
+use Rattle.std.proofs.Common.{length}
 use Rattle.nova_pig_key.proofs.sets.+push_with.Given as goal
 
 -- proposed from what the function passes where it calls itself

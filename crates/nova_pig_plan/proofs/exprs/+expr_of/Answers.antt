@@ -1,4 +1,4 @@
-use Rattle.std.proofs.Common.{rules, arith, ◌≡◌}
+use Rattle.std.proofs.Common.{rules, arith}
 use Rattle.std.proofs.lemmas.Grind.{common_steps}
 use Rattle.nova_pig_plan.proofs.Laws as laws
 use Rattle.nova_pig_plan.proofs.exprs.+expr_of.Goals as goal

@@ -1,4 +1,4 @@
-use Rattle.std.proofs.Common.{◌≡◌, ◌++◌, ◌<◌, length, take, drop, []}
+use Rattle.std.proofs.Common.{◌≡◌, ◌++◌, take}
 use Rattle.nova_pig_plan.specs.Plans as spec
 use Rattle.nova_pig_plan.proofs.joins.add_from.Given as goal
 

@@ -1,4 +1,3 @@
-use Rattle.std.proofs.Common.{◌≡◌}
 use Rattle.nova_pig_plan.proofs.Uneven.{uneven}
 use Rattle.nova_pig_plan.proofs.joins.same_kinds.Goals as goal
 

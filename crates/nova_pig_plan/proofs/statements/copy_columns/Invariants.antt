@@ -1,5 +1,4 @@
-use Rattle.std.proofs.Common.{◌≡◌, take, drop, []}
-use Rattle.nova_pig_plan.specs.Plans as spec
+use Rattle.std.proofs.Common.{◌≡◌, take}
 use Rattle.nova_pig_plan.proofs.statements.copy_columns.Given as goal
 
 abbrev pub invariant-loop-column : goal.invariant-loop-column

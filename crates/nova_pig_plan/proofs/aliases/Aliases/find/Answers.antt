@@ -1,4 +1,4 @@
-use Rattle.std.proofs.Common.{◌≡◌, ap, ◌∙◌}
+use Rattle.std.proofs.Common.{ap, ◌∙◌}
 use Rattle.nova_pig_plan.proofs.Named as named
 use Rattle.nova_pig_plan.specs.Plans.{find}
 use Rattle.nova_pig_plan.proofs.aliases.Aliases.find.Goals as goal

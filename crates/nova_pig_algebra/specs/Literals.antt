@@ -17,6 +17,7 @@ is_long (negsuc n) = nat_lt n (2 ^ 63)
 abbrev pub is_text : List ℕ → Bool
 is_text t = nat_lt (length t) 65536 && is_clean t && is_utf8 t
 
+-- each variant, by its parts
 abbrev pub literals_step : PlanExpr-F Bool → Bool
 literals_step (PlanExpr-F.Num n) = is_long n
 literals_step (PlanExpr-F.Lit t) = is_text t
@@ -35,15 +36,18 @@ literals_step _ = true
 unfoldable pub has_values : PlanExpr → Bool
 has_values = fold-PlanExpr Bool literals_step
 
+-- the literals of all items
 abbrev pub all_have_values : List PlanExpr → Bool
 all_have_values [] = true
 all_have_values (e ∷ es) = has_values e && all_have_values es
 
+-- the literals of a node
 abbrev pub node_has_values : Node → Bool
 node_has_values (node.Filter from cond) = has_values cond
 node_has_values (node.Foreach from items) = all_have_values items
 node_has_values _ = true
 
+-- the literals of all nodes
 abbrev pub nodes_have_values : List Node → Bool
 nodes_have_values [] = true
 nodes_have_values (n ∷ ns) = node_has_values n && nodes_have_values ns

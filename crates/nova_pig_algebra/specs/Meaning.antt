@@ -15,9 +15,11 @@ use Rattle.nova_pig_algebra.specs.declared.node.PlanExpr.{PlanExpr}
 use Rattle.nova_pig_algebra.specs.declared.node.PlanExpr.TheOpen.{PlanExpr-F}
 use Rattle.nova_pig_algebra.specs.declared.node.PlanExpr.TheFolds.{fold-PlanExpr}
 
+-- a row: its values, in the order of the columns
 abbrev pub Row : Type 0
 Row = List Value
 
+-- whether both rows are equal
 abbrev pub same_row : Row → Row → Bool
 same_row = eq_by_cmp key_cmp
 
@@ -39,6 +41,7 @@ abbrev pub long_of : Value → ℤ
 long_of (Long n) = n
 long_of (Text t) = pos 0
 
+-- what the order of two values says of a comparison
 abbrev pub passes : CompareOp → Ordering → Bool
 passes compare.Eq o = is_eq o
 passes compare.Ne o = is_ne o
@@ -60,9 +63,11 @@ abbrev pub best : (Value → Value → Ordering) → List Value → Value
 best order [] = Long (pos 0)
 best order (v ∷ vs) = fold (pick order) v vs
 
+-- the least value
 abbrev pub least : List Value → Value
 least = best value_cmp
 
+-- the greatest value
 abbrev pub greatest : List Value → Value
 greatest = best (λ a b. value_cmp b a)
 
@@ -107,9 +112,11 @@ holds_step (PlanExpr-F.Or a b) row f = a.holds row f || b.holds row f
 holds_step (PlanExpr-F.Not a) row f = not (a.holds row f)
 holds_step _ row f = false
 
+-- each variant, by what its parts mean
 abbrev pub given_step : PlanExpr-F Given → Given
 given_step layer = record { value = value_step layer; holds = holds_step layer }
 
+-- what an expression means
 unfoldable pub given : PlanExpr → Given
 given = fold-PlanExpr Given given_step
 
@@ -139,5 +146,6 @@ calls_step (PlanExpr-F.Compare op a b) = a ++ b
 calls_step (PlanExpr-F.If c a b) = c ++ (a ++ b)
 calls_step _ = []
 
+-- all of them, in the order in which they stand
 unfoldable pub calls : PlanExpr → List Call
 calls = fold-PlanExpr (List Call) calls_step

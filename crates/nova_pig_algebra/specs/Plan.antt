@@ -17,6 +17,7 @@ pub record Plan : Type 0 where
   pub inputs : List Shape
   pub output : Shape
 
+-- the kinds of the inputs
 abbrev pub kinds_of_inputs : List Shape → List (List Kind)
 kinds_of_inputs inputs = map (λ s. kinds s.columns) inputs
 

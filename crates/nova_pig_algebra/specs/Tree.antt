@@ -24,13 +24,16 @@ mutual
     End : Arms
     Arm : Tree → Arms → Arms
 
+-- the tree of a node, or Nothing where it is none of these
 abbrev pub tree_at : List Tree → ℕ → Tree
 tree_at done k = slice_index_or done k Nothing
 
+-- the trees of arms
 abbrev pub arms_at : List Tree → List ℕ → Arms
 arms_at done [] = End
 arms_at done (k ∷ ks) = Arm (tree_at done k) (arms_at done ks)
 
+-- a FOREACH over a GROUP makes the rows of its groups, over any other node a row for each row
 abbrev pub foreach_tree : List Tree → ℕ → List PlanExpr → Option Node → Tree
 foreach_tree done from items (Some (node.Group source columns)) = Grouped (tree_at done source) columns items
 foreach_tree done from items _ = Foreach (tree_at done from) items
@@ -50,6 +53,7 @@ unfoldable pub trees_after : List Node → List Tree → List Node → List Tree
 trees_after nodes done [] = done
 trees_after nodes done (n ∷ rest) = trees_after nodes (done ++ tree_of nodes done n ∷ []) rest
 
+-- the trees of all nodes
 abbrev pub trees : List Node → List Tree
 trees nodes = trees_after nodes [] nodes
 
@@ -70,6 +74,7 @@ abbrev pub distinct : List Row → List Row
 distinct [] = []
 distinct (row ∷ rows) = row ∷ filter (λ other. not (same_row row other)) (distinct rows)
 
+-- the table of an input
 abbrev pub rows_at : List (List Row) → ℕ → List Row
 rows_at all k = slice_index_or all k []
 

@@ -13,6 +13,7 @@ use Rattle.nova_pig_plan.specs.declared.scope.Channels.{Channels}
 use Rattle.nova_pig_plan.specs.declared.scope.Graph.{Graph}
 use Rattle.nova_pig_plan.specs.Plans.{graph_of}
 
+-- the schemas of channels
 abbrev pub schemas : List (List ℕ × Shape) → List Shape
 schemas channels = map (λ c. c.1) channels
 
@@ -24,6 +25,7 @@ plan ch g = record { nodes = g.nodes; stored = g.stored; inputs = schemas ch.inp
 abbrev pub Place : Type 0
 Place = Cause × ℕ
 
+-- with the schemas of the channels, where there is a plan
 abbrev pub with_channels : Channels → Result Graph Place → Result Plan Place
 with_channels ch (Ok g) = Ok (plan ch g)
 with_channels ch (Err f) = Err f
@@ -46,9 +48,11 @@ said (fault.NoStore n) = Some (cause.NoStore, n)
 said (fault.AliasTwice n) = Some (cause.AliasTwice, n)
 said fault.NoMemory = None
 
+-- the fault says this cause at this statement
 abbrev pub Means : PlanFault → Cause → ℕ → Type 0
 Means f c n = said f ≡ Some (c, n)
 
+-- what is said is the first fault
 abbrev pub IsFirst : Option Place → Result Plan Place → Type 0
 IsFirst None answer = Unit {0}
 IsFirst (Some p) answer = answer ≡ Err p

@@ -243,61 +243,63 @@ fn shown_built(alloc: Global, parts: &[(&str, usize)]) -> Result<Vec<u8>, AllocE
     }
 }
 
+/// Parts, each so many times, and what is read of the text that they make.
+const LIMITS: [(&[(&str, usize)], &str); 16] = [
+    (&[(" ", 65536)], ""),
+    (&[(" ", 65537)], "too long"),
+    (&[("#", 65537)], "too long"),
+    (&[("a", 65536)], "syntax 65536"),
+    (&[(";", 257)], "syntax 0"),
+    (&[(";", 258)], "too long"),
+    (&[(";", 258), ("#", 1)], "token 258"),
+    (&[(";", 258), ("(", 65)], "too long"),
+    (&[("=", 130)], "too deep 128"),
+    (&[("= ", 256), (";", 1)], "syntax 0"),
+    (&[("= ", 257), (";", 1)], "too long"),
+    (&[("= ", 257), ("(", 65)], "too deep 578"),
+    (
+        &[
+            ("f = FILTER r BY ", 1),
+            ("(", 64),
+            ("x", 1),
+            (")", 64),
+            (";", 1),
+        ],
+        "0-146 f = filter r by x; ",
+    ),
+    (
+        &[
+            ("f = FILTER r BY ", 1),
+            ("(", 65),
+            ("x", 1),
+            (")", 65),
+            (";", 1),
+        ],
+        "too deep 80",
+    ),
+    (
+        &[("f = FILTER r BY x", 1), (" - 1", 65), (";", 1)],
+        "too deep 274",
+    ),
+    (
+        &[
+            ("f = FOREACH r GENERATE ", 1),
+            ("(", 40),
+            ("x", 1),
+            (")", 40),
+            (",", 1),
+            ("(", 40),
+            ("y", 1),
+            (")", 40),
+            (";", 1),
+        ],
+        "0-187 f = foreach r, x, y; ",
+    ),
+];
+
 #[test]
 fn limits(rt: HostRuntime) -> Result<(), Fail> {
-    let cases: [(&[(&str, usize)], &str); 16] = [
-        (&[(" ", 65536)], ""),
-        (&[(" ", 65537)], "too long"),
-        (&[("#", 65537)], "too long"),
-        (&[("a", 65536)], "syntax 65536"),
-        (&[(";", 257)], "syntax 0"),
-        (&[(";", 258)], "too long"),
-        (&[(";", 258), ("#", 1)], "token 258"),
-        (&[(";", 258), ("(", 65)], "too long"),
-        (&[("=", 130)], "too deep 128"),
-        (&[("= ", 256), (";", 1)], "syntax 0"),
-        (&[("= ", 257), (";", 1)], "too long"),
-        (&[("= ", 257), ("(", 65)], "too deep 578"),
-        (
-            &[
-                ("f = FILTER r BY ", 1),
-                ("(", 64),
-                ("x", 1),
-                (")", 64),
-                (";", 1),
-            ],
-            "0-146 f = filter r by x; ",
-        ),
-        (
-            &[
-                ("f = FILTER r BY ", 1),
-                ("(", 65),
-                ("x", 1),
-                (")", 65),
-                (";", 1),
-            ],
-            "too deep 80",
-        ),
-        (
-            &[("f = FILTER r BY x", 1), (" - 1", 65), (";", 1)],
-            "too deep 274",
-        ),
-        (
-            &[
-                ("f = FOREACH r GENERATE ", 1),
-                ("(", 40),
-                ("x", 1),
-                (")", 40),
-                (",", 1),
-                ("(", 40),
-                ("y", 1),
-                (")", 40),
-                (";", 1),
-            ],
-            "0-187 f = foreach r, x, y; ",
-        ),
-    ];
-    for (parts, expected) in &cases {
+    for (parts, expected) in &LIMITS {
         let found = shown_built(rt.alloc(), parts)?;
         assert_eq!(rt; found.as_slice(), expected.as_bytes(), "limits: {expected}");
     }

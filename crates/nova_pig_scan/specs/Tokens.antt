@@ -1,4 +1,4 @@
--- The tokens of a text, each with its place.
+-- The tokens of a text as the scanner finds them: the piece in front, and then what follows it.
 use Rattle.std.specs.Prelude.{◌≡◌, ℕ, zero, suc, ◌+◌, ◌-◌, ◌<◌, ◌≤◌, false, ◌||◌, if◌then◌else◌, ◌==◌, List, [], ◌∷◌, ◌++◌, take, drop, Option, Some, None, Result, Ok, Err, pos}
 use Rattle.std.specs.Str.{str_eq_ignore_ascii_case, bytes_eq}
 use Rattle.nova_pig_tree.specs.declared.token.Word.{Word}

@@ -1,0 +1,10 @@
+pub mod Lists
+pub mod Sets
+pub mod Values
+pub mod Items
+pub mod Rising
+pub mod Keyed
+pub mod Even
+pub mod Apart
+pub mod Agree
+pub mod Literal

@@ -1,0 +1,5 @@
+use Rattle.nova_pig_algebra.proofs.Apart.{keys_tell}
+use Rattle.nova_pig_algebra.proofs.laws.keys_tell_rows_apart.Goals as goal
+
+pub returns : goal.returns
+returns c = keys_tell

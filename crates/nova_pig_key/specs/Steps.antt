@@ -1,0 +1,36 @@
+-- What is known of the nodes, from the left, each by what is known of those before it.
+use Rattle.std.specs.Prelude.{ℕ, List, [], ◌∷◌, ◌++◌, map, slice_index_or, slice_get, Option, Some, None}
+use Rattle.nova_value.specs.Rows.{Shape}
+use Rattle.nova_pig_algebra.specs.declared.facts.Facts.{Facts}
+use Rattle.nova_pig_algebra.specs.declared.node.PlanExpr.{PlanExpr}
+use Rattle.nova_pig_algebra.specs.declared.node.Node.{Node}
+use Rattle.nova_pig_algebra.specs.declared.node.Node.TheVariants as node
+use Rattle.nova_pig_algebra.specs.Keys.{facts_of, load_facts, foreach_facts, grouped_facts, join_facts, union_facts, distinct_facts, shape_at}
+
+-- what is known of a node, or that it has no columns and no key where it is none of these
+abbrev pub fact_at : List Facts → ℕ → Facts
+fact_at done k = slice_index_or done k (facts_of [] None)
+
+-- what is known of arms
+abbrev pub facts_at : List Facts → List ℕ → List Facts
+facts_at done arms = map (fact_at done) arms
+
+-- a FOREACH, by what its source is
+abbrev pub foreach_of : Option Node → List PlanExpr → Facts → Facts
+foreach_of (Some (node.Group source columns)) items from = grouped_facts columns items
+foreach_of _ items from = foreach_facts items from
+
+-- what is known of a node, by that of those before it
+abbrev pub node_facts : List Shape → List Node → List Facts → Node → Facts
+node_facts inputs nodes done (node.Load i) = load_facts (shape_at inputs i)
+node_facts inputs nodes done (node.Filter from cond) = fact_at done from
+node_facts inputs nodes done (node.Foreach from items) = foreach_of (slice_get nodes from) items (fact_at done from)
+node_facts inputs nodes done (node.Group from columns) = facts_of [] None
+node_facts inputs nodes done (node.Join left left_by right right_by) = join_facts right_by (fact_at done left) (fact_at done right)
+node_facts inputs nodes done (node.Union arms) = union_facts (facts_at done arms)
+node_facts inputs nodes done (node.Distinct from) = distinct_facts (fact_at done from)
+
+-- what is known of each node, from the left
+abbrev pub facts_after : List Shape → List Node → List Facts → List Node → List Facts
+facts_after inputs nodes done [] = done
+facts_after inputs nodes done (n ∷ rest) = facts_after inputs nodes (done ++ node_facts inputs nodes done n ∷ []) rest

@@ -1,0 +1,190 @@
+//! What statements define.
+ghost use Rattle.std.specs.Prelude.{◌≡◌, [], IfOk};
+ghost use Rattle.nova_pig_plan.specs.Answers.{Gives, GivesBy};
+ghost use Rattle.nova_pig_plan.specs.Plans as spec;
+
+use crate::aliases::Aliases;
+use crate::columns::{field_of, narrow};
+use crate::exprs::{check, expr_of, is_condition};
+use crate::fault::{Cause, Stop};
+use crate::items::{column_at, copy_column, items_of};
+use crate::scope::{Col, Defined, Scope};
+use nova_pig_algebra::Node;
+use nova_pig_tree::{Expr, Field, Item};
+use sqlite_items::Items;
+use std::alloc::{AllocError, Global};
+
+/// The fault, where the test fails.
+pub(crate) fn test(cause: Cause, holds: bool) -> Result<(), Stop>
+    ensures { Gives result (spec.test cause holds) }
+{
+    if holds {
+        Ok(())
+    } else {
+        Err(Stop::Fault(cause))
+    }
+}
+
+/// The number and the scope of an alias, or UnknownAlias.
+pub(crate) fn known<'s>(done: &'s Aliases<'_>, name: &[u8]) -> Result<(u32, &'s Scope), Stop>
+    ensures { GivesBy (λ k. (k.0, k.1.now)) result (spec.known done.now name.now) }
+{
+    match done.find(name) {
+        Some((place, scope)) => match narrow(place) {
+            Ok(at) => Ok((at, scope)),
+            Err(stop) => Err(stop),
+        },
+        None => Err(Stop::Fault(Cause::UnknownAlias)),
+    }
+}
+
+/// The columns of an alias, or BagMisused where it is grouped.
+pub(crate) fn ungrouped(scope: &Scope) -> Result<&[Col], Stop>
+    ensures { GivesBy (λ cs. cs.now) result (spec.ungrouped scope.now) }
+{
+    match scope {
+        Scope::Rows { columns } => Ok(columns.as_slice()),
+        Scope::Group {
+            bag: _,
+            by: _,
+            columns: _,
+        } => Err(Stop::Fault(Cause::BagMisused)),
+    }
+}
+
+/// Equal columns.
+pub(crate) fn copy_columns(alloc: Global, columns: &[Col]) -> Result<Items<Col>, AllocError>
+    ensures { IfOk result (λ cs. cs ≡ columns.now) }
+{
+    let mut all = Items::new(alloc);
+    for column in columns {
+        all.push(copy_column(alloc, column)?)?;
+    }
+    Ok(all)
+}
+
+/// A node with its columns, or TooWide where these are more than 64.
+pub(crate) fn defined(node: Node, columns: Items<Col>) -> Result<Defined, Stop>
+    ensures { Gives result (spec.defined node columns) }
+{
+    if columns.len() <= 64 {
+        Ok(Defined {
+            node,
+            scope: Scope::Rows { columns },
+        })
+    } else {
+        Err(Stop::Fault(Cause::TooWide))
+    }
+}
+
+/// The places that references mean, from left to right.
+pub(crate) fn fields_of(
+    alloc: Global,
+    columns: &[Col],
+    fields: &[Field],
+) -> Result<Items<u32>, Stop>
+    ensures { Gives result (spec.fields_of columns.now [] fields.now) }
+{
+    let mut places = Items::new(alloc);
+    for field in fields {
+        places.push(field_of(columns, field)?)?;
+    }
+    Ok(places)
+}
+
+/// Copies of the columns at these places.
+pub(crate) fn columns_at(
+    alloc: Global,
+    columns: &[Col],
+    places: &[u32],
+) -> Result<Items<Col>, AllocError>
+    ensures { IfOk result (λ cs. cs ≡ spec.columns_at columns.now places.now) }
+{
+    let mut all = Items::new(alloc);
+    for place in places {
+        all.push(column_at(alloc, columns, *place)?)?;
+    }
+    Ok(all)
+}
+
+/// FILTER: it keeps the columns.
+pub(crate) fn filter_rows(
+    alloc: Global,
+    done: &Aliases<'_>,
+    from: &[u8],
+    cond: &Expr,
+) -> Result<Defined, Stop>
+    ensures { Gives result (spec.filter_rows done.now from.now cond.now) }
+{
+    let (at, scope) = known(done, from)?;
+    let columns = ungrouped(scope)?;
+    let typed = expr_of(cond, alloc, scope)?;
+    check(is_condition(typed.sort))?;
+    let columns = copy_columns(alloc, columns)?;
+    let node = Node::Filter {
+        from: at,
+        cond: typed.expr.into_inner(),
+    };
+    Ok(Defined {
+        node,
+        scope: Scope::Rows { columns },
+    })
+}
+
+/// FOREACH over rows or over groups.
+pub(crate) fn foreach(
+    alloc: Global,
+    done: &Aliases<'_>,
+    from: &[u8],
+    items: &[Item],
+) -> Result<Defined, Stop>
+    ensures { Gives result (spec.foreach done.now from.now items.now) }
+{
+    let (at, scope) = known(done, from)?;
+    let made = items_of(alloc, scope, items)?;
+    defined(
+        Node::Foreach {
+            from: at,
+            items: made.exprs,
+        },
+        made.columns,
+    )
+}
+
+/// GROUP: a bag, named by the alias, and the BY columns.
+pub(crate) fn group(
+    alloc: Global,
+    done: &Aliases<'_>,
+    from: &[u8],
+    by: &[Field],
+) -> Result<Defined, Stop>
+    ensures { Gives result (spec.group done.now from.now by.now) }
+{
+    let (at, scope) = known(done, from)?;
+    let columns = ungrouped(scope)?;
+    let places = fields_of(alloc, columns, by)?;
+    let bag = Items::from_slice(alloc, from)?;
+    let by = columns_at(alloc, columns, places.as_slice())?;
+    let columns = copy_columns(alloc, columns)?;
+    let node = Node::Group {
+        from: at,
+        columns: places,
+    };
+    Ok(Defined {
+        node,
+        scope: Scope::Group { bag, by, columns },
+    })
+}
+
+/// DISTINCT: it keeps the columns.
+pub(crate) fn distinct(alloc: Global, done: &Aliases<'_>, from: &[u8]) -> Result<Defined, Stop>
+    ensures { Gives result (spec.distinct done.now from.now) }
+{
+    let (at, scope) = known(done, from)?;
+    let columns = ungrouped(scope)?;
+    let columns = copy_columns(alloc, columns)?;
+    Ok(Defined {
+        node: Node::Distinct { from: at },
+        scope: Scope::Rows { columns },
+    })
+}

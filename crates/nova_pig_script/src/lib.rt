@@ -1,0 +1,8 @@
+//! The plan of a script's text: parsed, and then resolved.
+#![tactic(auto)]
+
+mod script;
+#[cfg(test)]
+mod tests;
+
+pub use script::{ScriptFault, plan_of_text};

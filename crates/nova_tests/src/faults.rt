@@ -1,6 +1,7 @@
 //! A source or a host that fails in the middle of a call.
-use crate::run::{READY, call, init, replied, run, source_of, with_store};
+use crate::run::{READY, call, init, replied, replies_behind, run, source_of, with_store};
 use nova_mem::MemHost;
+use std::alloc::{AllocError, Global};
 use std::test::Fail;
 
 const SESSION: &str = "load raw\n+1\t/a\t1\n.\nshow raw\nload raw\n+2\t/b\t2\n.\nshow raw\n";
@@ -12,11 +13,11 @@ const ALL: &str =
     "loaded raw 1\n+1\t/a\t1\nshown raw 1 1\nloaded raw 2\n+1\t/a\t1\n+2\t/b\t2\nshown raw 2 2\n";
 
 /// What a later call shows of no load, of one, and of both.
-const SHOWN: [&str; 3] = [
-    "shown raw 0 0\n",
-    "+1\t/a\t1\nshown raw 1 1\n",
-    "+1\t/a\t1\n+2\t/b\t2\nshown raw 2 2\n",
-];
+const NONE: &str = "shown raw 0 0\n";
+
+const ONE: &str = "+1\t/a\t1\nshown raw 1 1\n";
+
+const BOTH: &str = "+1\t/a\t1\n+2\t/b\t2\nshown raw 2 2\n";
 
 #[test]
 fn failed_read_ends_behind_whole_commands(rt: HostRuntime) -> Result<(), Fail> {
@@ -33,94 +34,115 @@ fn failed_read_ends_behind_whole_commands(rt: HostRuntime) -> Result<(), Fail> {
     Ok(())
 }
 
-/// How many loads these reply lines tell of.
-fn loads_told(lines: &[u8]) -> usize {
+/// What a later call may show behind these reply lines: the loads that they tell, or one more.
+fn may_show(lines: &[u8]) -> [&'static str; 2] {
     if lines.len() > FIRST.len() {
-        2
+        [BOTH, BOTH]
     } else if lines.is_empty() {
-        0
+        [NONE, ONE]
     } else {
-        1
+        [ONE, BOTH]
     }
 }
 
-/// Whether a later call shows this many loads, or one more.
-fn shows(shown: &[u8], loads: usize) -> bool {
-    shown == SHOWN[loads].as_bytes() || (loads < 2 && shown == SHOWN[loads + 1].as_bytes())
+/// What a call did of which the host's next call but so many failed.
+struct Outcome {
+    status: u8,
+    lines: Vec<u8>,
+    host: MemHost,
+}
+
+fn session_where_fails(alloc: Global, calls: u64) -> Result<Outcome, AllocError> {
+    let mut host = with_store(alloc)?;
+    host.fail_at(host.calls().saturating_add(calls))?;
+    let status = run(alloc, &mut host, SESSION)?;
+    let lines = replies_behind(&host, READY.len()).to_vec(alloc)?;
+    Ok(Outcome {
+        status,
+        lines,
+        host,
+    })
 }
 
 #[test]
 fn each_failed_call_leaves_a_front_of_the_session(rt: HostRuntime) -> Result<(), Fail> {
-    let first = with_store(rt.alloc())?.calls();
-    let mut counts = [0; 5];
-    for number in first..first + 64 {
-        let mut host = with_store(rt.alloc())?;
-        host.fail_at(number)?;
-        let status = run(rt.alloc(), &mut host, SESSION)?;
-        assert!(rt;
-            status == 0 || status == 3 || status == 4,
-            "status {status} where {number} fails"
-        );
-        counts[status as usize] += 1;
-        let length = host.replies().len();
-        let lines = host.replies()[READY.len()..].to_vec(rt.alloc())?;
+    let mut of_replies = 0_u64;
+    let mut of_files = 0_u64;
+    let mut is_done = false;
+    for calls in 0..64 {
+        let Outcome {
+            status,
+            lines,
+            mut host,
+        } = session_where_fails(rt.alloc(), calls)?;
         assert!(rt;
             ALL.as_bytes().starts_with(&lines),
-            "replies where {number} fails"
+            "replies where call {calls} fails"
         );
         assert_eq!(rt;
             status == 0,
             lines.as_slice() == ALL.as_bytes(),
-            "end where {number} fails"
+            "end where call {calls} fails"
         );
-        if status == 0 {
+        match status {
+            0 => is_done = true,
+            3 => of_files = of_files.saturating_add(1),
+            _ => {
+                assert_eq!(rt; status, 4, "status where call {calls} fails");
+                of_replies = of_replies.saturating_add(1);
+            }
+        }
+        if is_done {
             break;
         }
+        let length = host.replies().len();
         let later = run(rt.alloc(), &mut host, "show raw\n")?;
+        assert_eq!(rt; later, 0, "a later call where call {calls} fails");
+        let shown = replies_behind(&host, length);
+        let [told, next] = may_show(&lines);
         assert!(rt;
-            shows(&host.replies()[length..], loads_told(&lines)),
-            "the store where {number} fails"
+            shown == told.as_bytes() || shown == next.as_bytes(),
+            "the store where call {calls} fails"
         );
-        assert_eq!(rt; later, 0, "a later call where {number} fails");
     }
-    assert_eq!(rt; counts[0], 1, "in the end no call fails");
-    assert!(rt; counts[3] > 8, "calls on files fail");
-    assert_eq!(rt; counts[4], 7, "replies fail");
+    assert!(rt; is_done, "in the end no call fails");
+    assert!(rt; of_files > 8, "calls on files fail");
+    assert_eq!(rt; of_replies, 7, "each of the seven reply lines fails once");
     Ok(())
 }
 
 #[test]
 fn each_failed_call_of_init_leaves_no_store_or_a_new_one(rt: HostRuntime) -> Result<(), Fail> {
-    let mut counts = [0; 5];
-    for number in 0..32 {
+    let mut of_replies = 0_u64;
+    let mut of_files = 0_u64;
+    let mut is_done = false;
+    for calls in 0..32 {
         let mut host = MemHost::new(rt.alloc());
-        host.fail_at(number)?;
-        let status = init(rt.alloc(), &mut host)?;
-        assert!(rt;
-            status == 0 || status == 3 || status == 4,
-            "status {status} where {number} fails"
-        );
-        counts[status as usize] += 1;
-        if status == 0 {
+        host.fail_at(calls)?;
+        match init(rt.alloc(), &mut host)? {
+            0 => is_done = true,
+            3 => of_files = of_files.saturating_add(1),
+            status => {
+                assert_eq!(rt; status, 4, "status where call {calls} fails");
+                of_replies = of_replies.saturating_add(1);
+            }
+        }
+        if is_done {
             break;
         }
         let is_marked = host.file(1).is_some();
         let length = host.replies().len();
         let later = run(rt.alloc(), &mut host, "show raw\n")?;
+        let (status, shown) = if is_marked { (0, NONE) } else { (6, "") };
+        assert_eq!(rt; later, status, "a later call where call {calls} fails");
         assert_eq!(rt;
-            later,
-            if is_marked { 0 } else { 6 },
-            "a later call where {number} fails"
+            replies_behind(&host, length),
+            shown.as_bytes(),
+            "the store where call {calls} fails"
         );
-        assert_eq!(rt;
-            &host.replies()[length..],
-            if is_marked { SHOWN[0].as_bytes() } else { b"" },
-            "the store where {number} fails"
-        );
-        assert!(rt; is_marked || status == 3, "no store where {number} fails");
     }
-    assert_eq!(rt; counts[0], 1, "in the end no call fails");
-    assert!(rt; counts[3] > 4, "calls on files fail");
-    assert_eq!(rt; counts[4], 1, "the reply fails");
+    assert!(rt; is_done, "in the end no call fails");
+    assert!(rt; of_files > 4, "calls on files fail");
+    assert_eq!(rt; of_replies, 1, "the reply fails");
     Ok(())
 }

@@ -59,3 +59,11 @@ pub fn replied(host: &MemHost, lines: &str) -> bool {
         None => false,
     }
 }
+
+/// The replies behind so many bytes of them.
+pub fn replies_behind(host: &MemHost, length: usize) -> &[u8] {
+    match host.replies().get(length..) {
+        Some(rest) => rest,
+        None => &[],
+    }
+}

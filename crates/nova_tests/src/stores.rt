@@ -1,5 +1,5 @@
 //! Stores that are made, opened and damaged.
-use crate::run::{READY, init, replied, run, with_store};
+use crate::run::{READY, init, replied, replies_behind, run, with_store};
 use nova_mem::MemHost;
 use std::test::Fail;
 
@@ -35,7 +35,7 @@ fn loads_survive_the_call(rt: HostRuntime) -> Result<(), Fail> {
         "third load"
     );
     assert_eq!(rt;
-        &host.replies()[length..],
+        replies_behind(&host, length),
         b"loaded raw 3\n+1\tx\t1\n+3\tc\t7\nshown raw 3 2\n".as_slice(),
         "later replies"
     );
@@ -71,10 +71,29 @@ fn stores_that_are_new_there_or_missing(rt: HostRuntime) -> Result<(), Fail> {
     Ok(())
 }
 
+/// Puts a byte of the journal in the place of another, and gives the other.
+fn spoil(host: &mut MemHost, at: usize, byte: u8) -> Option<u8> {
+    let old = *host.file(0)?.get(at)?;
+    host.edit(0, at, byte);
+    Some(old)
+}
+
+/// Cuts the journal to a length, where it is longer.
+fn cut(host: &mut MemHost, length: usize) -> bool {
+    let is_longer = match host.file(0) {
+        Some(bytes) => length < bytes.len(),
+        None => false,
+    };
+    if is_longer {
+        host.cut(0, length);
+    }
+    is_longer
+}
+
 #[test]
 fn damage_is_told(rt: HostRuntime) -> Result<(), Fail> {
     let mut host = with_store(rt.alloc())?;
-    host.cut(0, 5);
+    assert!(rt; cut(&mut host, 5), "cut");
     assert_eq!(rt;
         run(rt.alloc(), &mut host, "show raw\n")?,
         9,
@@ -83,7 +102,7 @@ fn damage_is_told(rt: HostRuntime) -> Result<(), Fail> {
     assert!(rt; replied(&host, "damaged 0 0\n"), "its reply");
 
     let mut host = with_store(rt.alloc())?;
-    host.edit(0, 9, b'x');
+    assert!(rt; spoil(&mut host, 9, b'x').is_some(), "spoilt");
     assert_eq!(rt;
         run(rt.alloc(), &mut host, "show raw\n")?,
         9,
@@ -96,21 +115,18 @@ fn damage_is_told(rt: HostRuntime) -> Result<(), Fail> {
     assert_eq!(rt; run(rt.alloc(), &mut host, LOAD)?, 0, "load");
     for (at, byte) in [(FIRST_LOAD, b'*'), (FIRST_LOAD + 8, b'.')] {
         let length = host.replies().len();
-        let Some(old) = host.file(0).and_then(|file| file.get(at).copied()) else {
-            return Err(Fail::new("no such byte"));
-        };
-        host.edit(0, at, byte);
+        let old = spoil(&mut host, at, byte).expect(&rt, "a byte of the journal");
         assert_eq!(rt;
             run(rt.alloc(), &mut host, "show raw\n")?,
             9,
             "a load with {byte} at {at}"
         );
         assert_eq!(rt;
-            &host.replies()[length..],
+            replies_behind(&host, length),
             b"damaged 0 106\n".as_slice(),
             "{byte} at {at}"
         );
-        host.edit(0, at, old);
+        assert_eq!(rt; spoil(&mut host, at, old), Some(byte), "mended");
     }
     let length = host.replies().len();
     assert_eq!(rt;
@@ -119,7 +135,7 @@ fn damage_is_told(rt: HostRuntime) -> Result<(), Fail> {
         "nothing was changed"
     );
     assert_eq!(rt;
-        &host.replies()[length..],
+        replies_behind(&host, length),
         b"+1\t/a\t200\n+2\tb\t50\n+3\tc\t7\nshown raw 1 3\n".as_slice(),
         "nothing was lost"
     );

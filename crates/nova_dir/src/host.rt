@@ -33,6 +33,7 @@ impl<'a, R: Files + Print + AllocGlobal> DirHost<'a, R> {
     /// A host over this folder, which is made once a file in it is made or synced; the folder that it
     /// stands in has to be there.
     pub fn new(rt: &'a R, folder: &'a str) -> DirHost<'a, R>
+        ensures folder { result.folder.now ≡ folder.now }
         ensures disk_faults { result.disk_faults ≡ 0 }
         ensures reply_faults { result.reply_faults ≡ 0 }
         ensures bytes_read { result.read_count ≡ 0 }

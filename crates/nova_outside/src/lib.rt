@@ -14,7 +14,7 @@ ghost use Rattle.nova_outside.specs.History.{Event, ChangesInPart, RepliesInPart
 ghost use Rattle.nova_outside.specs.History.Change.{Created, Removed, Synced, SyncedInPart, Written};
 ghost use Rattle.nova_outside.specs.History.Event.{OnFile, Replied};
 
-pub use laws::crash_laws;
+pub use laws::{crash_laws, failure_laws};
 pub use writing::{put_file, write_through};
 
 /// A call that didn't do its work. The one fault of every call to the outside; the count of the

@@ -10,13 +10,14 @@ use Rattle.nova_value.specs.declared.value.Kind.TheVariants as kind
 use Rattle.nova_value.specs.declared.schema.Entry.TheVariants.{Put, Removal}
 use Rattle.nova_value.specs.declared.fault.RowFault.{RowFault}
 use Rattle.nova_value.specs.declared.fault.RowFault.TheVariants.{WrongSign, FieldCount, BadNumber, TooLong, NotUtf8}
+use Rattle.nova_value.specs.declared.limit.TheConstants.{MAX_TEXT_BYTES}
 use Rattle.nova_value.specs.Text.{is_clean, has_newline}
 use Rattle.nova_value.specs.Rows.{Shape, kinds, key_kinds}
 use Rattle.nova_value.specs.Line.{◌>>=◌, long_at, fields, long_or, value_of, values_of, fields_of, row_of_text}
-use Rattle.nova_value.specs.LineLaws.{fields_clean}
 use Rattle.nova_value.specs.Forms.{SpellsLong, SpellsValue, FieldFails, FirstBad, FieldsFail, LineFails}
 use Rattle.nova_value.specs.Forms as form
 use Rattle.nova_value.specs.Statements.{FaultsAreForms}
+use Rattle.nova_value.proofs.LineFits.{fields_clean}
 use Rattle.nova_value.proofs.Forms.{long_spelled, long_read, value_spelled, value_read}
 
 long_fails : (n : ℕ) (f : List ℕ) (fault : RowFault) → value_of kind.Long n f ≡ Err fault → FieldFails n kind.Long f fault
@@ -31,7 +32,7 @@ long_fails n f fault e =
 
 text_fails : (n : ℕ) (f : List ℕ) (fault : RowFault) → value_of kind.Text n f ≡ Err fault → FieldFails n kind.Text f fault
 text_fails n f fault e =
-    elim (nat_lt 65535 (length f)) as (λ t. nat_lt 65535 (length f) ≡ t → cond t (Err (TooLong n)) (cond (is_utf8 f) (Ok (Text f)) (Err (NotUtf8 n))) ≡ Err fault → FieldFails n kind.Text f fault) [
+    elim (nat_lt MAX_TEXT_BYTES (length f)) as (λ t. nat_lt MAX_TEXT_BYTES (length f) ≡ t → cond t (Err (TooLong n)) (cond (is_utf8 f) (Ok (Text f)) (Err (NotUtf8 n))) ≡ Err fault → FieldFails n kind.Text f fault) [
       | true ↦ λ t e. let same : TooLong n ≡ fault = cc in subst (FieldFails n kind.Text f) same (form.too_long (grind (arith, nat_tests, t)))
       | false ↦ λ t e. elim (is_utf8 f) as (λ u. is_utf8 f ≡ u → cond u (Ok (Text f)) (Err (NotUtf8 n)) ≡ Err fault → FieldFails n kind.Text f fault) [
         | true ↦ λ u e. cc
@@ -53,7 +54,7 @@ values_fail n (k ∷ ks) (f ∷ fs) fault count clean e = by_value (λ is. value
   where
     by_rest : (v : Value) → ((values_of (n + 1) ks fs ≡ Err fault) → FirstBad (n + 1) ks fs fault) → value_of k n f ≡ Ok v → (r : Result (List Value) RowFault) → values_of (n + 1) ks fs ≡ r → (r >>= λ vs. Ok (v ∷ vs)) ≡ Err fault → FirstBad n (k ∷ ks) (f ∷ fs) fault
     by_rest v go is (Ok vs) rest e = cc
-    by_rest v go is (Err g) rest e = let same : g ≡ fault = cc in form.behind (value_spelled k n f v clean.0 is) (go (rest ∙ ap (λ (h : RowFault). Err h) same))
+    by_rest v go is (Err g) rest e = let same : g ≡ fault = cc in form.later (value_spelled k n f v clean.0 is) (go (rest ∙ ap (λ (h : RowFault). Err h) same))
 
     by_value : ((values_of (n + 1) ks fs ≡ Err fault) → FirstBad (n + 1) ks fs fault) → (r : Result Value RowFault) → value_of k n f ≡ r → (r >>= λ v. values_of (n + 1) ks fs >>= λ vs. Ok (v ∷ vs)) ≡ Err fault → FirstBad n (k ∷ ks) (f ∷ fs) fault
     by_value go (Ok v) is e = by_rest v go is (values_of (n + 1) ks fs) refl e
@@ -91,10 +92,10 @@ no_number n f none =
       | Some z ↦ λ is. absurd (none z (long_spelled f z is))
     ] refl
 
-too_long : (n : ℕ) (f : List ℕ) → 65535 < length f → value_of kind.Text n f ≡ Err (TooLong n)
+too_long : (n : ℕ) (f : List ℕ) → MAX_TEXT_BYTES < length f → value_of kind.Text n f ≡ Err (TooLong n)
 too_long n f long = grind (arith, nat_tests, long)
 
-no_text : (n : ℕ) (f : List ℕ) → length f ≤ 65535 → is_utf8 f ≡ false → value_of kind.Text n f ≡ Err (NotUtf8 n)
+no_text : (n : ℕ) (f : List ℕ) → length f ≤ MAX_TEXT_BYTES → is_utf8 f ≡ false → value_of kind.Text n f ≡ Err (NotUtf8 n)
 no_text n f short none = grind (arith, nat_tests, short, none)
 
 -- a field that fails is refused
@@ -109,15 +110,15 @@ here_failed : (n : ℕ) (k : Kind) (ks : List Kind) (f : List ℕ) (fs : List (L
 unfolding values_of
 here_failed n k ks f fs fault h = ap (λ (r : Result Value RowFault). r >>= λ v. values_of (n + 1) ks fs >>= λ vs. Ok (v ∷ vs)) (value_failed n k f fault h)
 
-behind_failed : (n : ℕ) (k : Kind) (ks : List Kind) (f : List ℕ) (fs : List (List ℕ)) (v : Value) (fault : RowFault) → SpellsValue k f v → values_of (n + 1) ks fs ≡ Err fault → values_of n (k ∷ ks) (f ∷ fs) ≡ Err fault
+later_failed : (n : ℕ) (k : Kind) (ks : List Kind) (f : List ℕ) (fs : List (List ℕ)) (v : Value) (fault : RowFault) → SpellsValue k f v → values_of (n + 1) ks fs ≡ Err fault → values_of n (k ∷ ks) (f ∷ fs) ≡ Err fault
 unfolding values_of
-behind_failed n k ks f fs v fault is rest =
+later_failed n k ks f fs v fault is rest =
     ap (λ (r : Result Value RowFault). r >>= λ v. values_of (n + 1) ks fs >>= λ vs. Ok (v ∷ vs)) (value_read n k f v is)
     ∙ ap (λ (r : Result (List Value) RowFault). r >>= λ vs. Ok (v ∷ vs)) rest
 
 values_failed : {n : ℕ} {ks : List Kind} {fs : List (List ℕ)} {fault : RowFault} → FirstBad n ks fs fault → values_of n ks fs ≡ Err fault
 values_failed (form.here {n = n} {k = k} {ks = ks} {f = f} {fs = fs} {fault = fault} h) = here_failed n k ks f fs fault h
-values_failed (form.behind {n = n} {k = k} {ks = ks} {f = f} {fs = fs} {v = v} {fault = fault} is rest) = behind_failed n k ks f fs v fault is (values_failed rest)
+values_failed (form.later {n = n} {k = k} {ks = ks} {f = f} {fs = fs} {v = v} {fault = fault} is rest) = later_failed n k ks f fs v fault is (values_failed rest)
 
 fields_counted : (ks : List Kind) (bs : List ℕ) → length (fields bs) ≢ length ks → fields_of ks bs ≡ Err FieldCount
 unfolding fields_of

@@ -2,6 +2,7 @@
 use Rattle.std.proofs.Common.{◌≡◌, ℕ, suc, ◌+◌, ◌<◌, ◌≤◌, ◌^◌, ℤ, pos, Bool, true, false, cond, ◌&&◌, ◌==◌, nat_lt, List, [], ◌∷◌, ◌++◌, length, Some, None, Result, Ok, Err, refl, ap, sym, subst, ◌∙◌, arith, neg_ℤ, ◌⊎◌, inl, inr}
 use Rattle.std.specs.List.{AllByRecursion}
 use Rattle.std.specs.Str.{all_ascii_digits, is_utf8}
+use Rattle.std.proofs.lemmas.Bool.{and_parts, and_from}
 use Rattle.std.proofs.lemmas.Bool.Decides.{nat_tests}
 use Rattle.nova_value.specs.declared.value.Value.{Value}
 use Rattle.nova_value.specs.declared.value.Value.TheVariants.{Long, Text}
@@ -11,20 +12,18 @@ use Rattle.nova_value.specs.declared.schema.Entry.{Entry}
 use Rattle.nova_value.specs.declared.schema.Entry.TheVariants.{Put, Removal}
 use Rattle.nova_value.specs.declared.fault.RowFault.{RowFault}
 use Rattle.nova_value.specs.declared.fault.RowFault.TheVariants.{WrongSign, FieldCount, BadNumber, TooLong, NotUtf8}
+use Rattle.nova_value.specs.declared.limit.TheConstants.{MAX_TEXT_BYTES}
 use Rattle.nova_value.specs.Text.{is_clean, has_newline, IsText}
-use Rattle.nova_value.specs.Entries.{length_kinds}
 use Rattle.nova_value.specs.Rows.{Shape, IsShape, kinds, key_kinds}
-use Rattle.nova_value.specs.Line.{◌>>=◌, number_after, is_numeral, long_at, fields, into_first, long_or, value_of, values_of, fields_of, row_of_text}
-use Rattle.nova_value.specs.LineLaws.{bind_ok, chosen, fields_clean}
+use Rattle.nova_value.specs.Lists.{onto_first}
+use Rattle.nova_value.specs.Line.{◌>>=◌, number_after, is_numeral, long_at, fields, long_or, value_of, values_of, fields_of, row_of_text}
 use Rattle.nova_value.specs.Forms.{SpellsLong, SpellsValue, SpellsValues, Spells}
 use Rattle.nova_value.specs.Forms as form
 use Rattle.nova_value.specs.Statements.{LinesAreForms}
-use Rattle.nova_value.specs.ReadBack.{no_tab, fields-join, fields-only, no_tab-digits, no_tab-clean, and_true, plain_at, length-key_kinds}
+use Rattle.nova_value.proofs.Fit.{length_kinds}
+use Rattle.nova_value.proofs.LineFits.{bind_ok, chosen, fields_clean}
+use Rattle.nova_value.proofs.ReadBack.{no_tab, fields-join, fields-only, no_tab-digits, no_tab-clean, plain_at, length-key_kinds}
 use Rattle.nova_value.proofs.Values.{some_field}
-
-both : (a b : Bool) → (a && b) ≡ true → (a ≡ true) × (b ≡ true)
-both true b e = (refl, e)
-both false b e = cc
 
 -- a number that is read is spelled
 pub long_spelled : (f : List ℕ) (n : ℤ) → long_at f ≡ Some n → SpellsLong f n
@@ -33,18 +32,18 @@ long_spelled (b ∷ bs) n e =
     elim (b == 45) as (λ t. (b == 45) ≡ t → cond t (cond (is_numeral bs && nat_lt (number_after 0 bs) (2 ^ 63 + 1)) (Some (neg_ℤ (pos (number_after 0 bs)))) None) (cond (is_numeral (b ∷ bs) && nat_lt (number_after 0 (b ∷ bs)) (2 ^ 63)) (Some (pos (number_after 0 (b ∷ bs)))) None) ≡ Some n → SpellsLong (b ∷ bs) n) [
       | true ↦ λ is e.
           let p = chosen _ _ n e in
-          let q = both (is_numeral bs) (nat_lt (number_after 0 bs) (2 ^ 63 + 1)) p.0 in
+          let q = and_parts (is_numeral bs) (nat_lt (number_after 0 bs) (2 ^ 63 + 1)) p.0 in
           let dash : b ≡ 45 = grind (arith, nat_tests, is) in
           subst (λ (c : ℕ). SpellsLong (c ∷ bs) n) (sym dash) (subst (SpellsLong (45 ∷ bs)) p.1 (form.minus q.0 (grind (arith, nat_tests, q.1))))
       | false ↦ λ is e.
           let p = chosen _ _ n e in
-          let q = both (is_numeral (b ∷ bs)) (nat_lt (number_after 0 (b ∷ bs)) (2 ^ 63)) p.0 in
+          let q = and_parts (is_numeral (b ∷ bs)) (nat_lt (number_after 0 (b ∷ bs)) (2 ^ 63)) p.0 in
           subst (SpellsLong (b ∷ bs)) p.1 (form.plain q.0 (grind (arith, nat_tests, q.1)))
     ] refl e
 
 text_spelled : (n : ℕ) (f : List ℕ) (v : Value) → is_clean f ≡ true → value_of kind.Text n f ≡ Ok v → SpellsValue kind.Text f v
 text_spelled n f v clean e =
-    elim (nat_lt 65535 (length f)) as (λ t. nat_lt 65535 (length f) ≡ t → cond t (Err (TooLong n)) (cond (is_utf8 f) (Ok (Text f)) (Err (NotUtf8 n))) ≡ Ok v → SpellsValue kind.Text f v) [
+    elim (nat_lt MAX_TEXT_BYTES (length f)) as (λ t. nat_lt MAX_TEXT_BYTES (length f) ≡ t → cond t (Err (TooLong n)) (cond (is_utf8 f) (Ok (Text f)) (Err (NotUtf8 n))) ≡ Ok v → SpellsValue kind.Text f v) [
       | true ↦ λ t e. cc
       | false ↦ λ t e. elim (is_utf8 f) as (λ u. is_utf8 f ≡ u → cond u (Ok (Text f)) (Err (NotUtf8 n)) ≡ Ok v → SpellsValue kind.Text f v) [
         | true ↦ λ u e. let same : Text f ≡ v = cc in subst (SpellsValue kind.Text f) same (form.text (record { short = grind (arith, nat_tests, t); clean = clean; utf8 = u }))
@@ -75,25 +74,25 @@ first_field (b ∷ bs) = by_tab (b == 9) refl (first_field bs)
     by_tab : (t : Bool) → (b == 9) ≡ t → (fields bs ≡ bs ∷ []) ⊎ FirstField bs → (fields (b ∷ bs) ≡ (b ∷ bs) ∷ []) ⊎ FirstField (b ∷ bs)
     by_tab true is rest =
         let tab : b ≡ 9 = grind (arith, nat_tests, is) in
-        inr (record { field = []; more = bs; is = ap (λ (c : ℕ). c ∷ bs) tab; fields_are = ap (λ (t : Bool). cond t ([] ∷ fields bs) (into_first b (fields bs))) is })
-    by_tab false is (inl one) = inl (ap (λ (t : Bool). cond t ([] ∷ fields bs) (into_first b (fields bs))) is ∙ ap (into_first b) one)
+        inr (record { field = []; more = bs; is = ap (λ (c : ℕ). c ∷ bs) tab; fields_are = ap (λ (t : Bool). cond t ([] ∷ fields bs) (onto_first b (fields bs))) is })
+    by_tab false is (inl one) = inl (ap (λ (t : Bool). cond t ([] ∷ fields bs) (onto_first b (fields bs))) is ∙ ap (onto_first b) one)
     by_tab false is (inr first) = inr (record {
       field = b ∷ first.field;
       more = first.more;
       is = ap (λ (cs : List ℕ). b ∷ cs) first.is;
-      fields_are = ap (λ (t : Bool). cond t ([] ∷ fields bs) (into_first b (fields bs))) is ∙ ap (into_first b) first.fields_are;
+      fields_are = ap (λ (t : Bool). cond t ([] ∷ fields bs) (onto_first b (fields bs))) is ∙ ap (onto_first b) first.fields_are;
     })
 
-newline_behind : (a bs : List ℕ) → has_newline (a ++ 9 ∷ bs) ≡ false → has_newline bs ≡ false
-newline_behind [] bs h = h
-newline_behind (b ∷ a) bs h = newline_behind a bs (grind (arith, nat_tests))
+newline_after : (a bs : List ℕ) → has_newline (a ++ 9 ∷ bs) ≡ false → has_newline bs ≡ false
+newline_after [] bs h = h
+newline_after (b ∷ a) bs h = newline_after a bs (grind (arith, nat_tests))
 
--- what the reading of a first field and of those behind it says
+-- what the reading of a first field and of those after it says
 pub record Read (i : ℕ) (k : Kind) (ks : List Kind) (f : List ℕ) (fs : List (List ℕ)) (vs : List Value) : Type 0 where
   pub value : Value
   pub values : List Value
   pub read : value_of k i f ≡ Ok value
-  pub behind : values_of (i + 1) ks fs ≡ Ok values
+  pub rest : values_of (i + 1) ks fs ≡ Ok values
   pub all : value ∷ values ≡ vs
 
 read_first : (i : ℕ) (k : Kind) (ks : List Kind) (f : List ℕ) (fs : List (List ℕ)) (vs : List Value) → values_of i (k ∷ ks) (f ∷ fs) ≡ Ok vs → Read i k ks f fs vs
@@ -102,7 +101,7 @@ read_first i k ks f fs vs e =
     let p = bind_ok (value_of k i f) (λ v. values_of (i + 1) ks fs >>= λ ws. Ok (v ∷ ws)) vs e in
     let q = bind_ok (values_of (i + 1) ks fs) (λ ws. Ok (p.0 ∷ ws)) vs p.2 in
     let all : p.0 ∷ q.0 ≡ vs = let last = q.2 in cc in
-    record { value = p.0; values = q.0; read = p.1; behind = q.1; all = all }
+    record { value = p.0; values = q.0; read = p.1; rest = q.1; all = all }
 
 no_values : (i : ℕ) (fs : List (List ℕ)) (vs : List Value) → values_of i [] fs ≡ Ok vs → (vs ≡ []) × (length fs ≡ 0)
 unfolding values_of
@@ -120,22 +119,22 @@ module _ (i : ℕ) (k : Kind) (text : List ℕ) (vs : List Value) (line : has_ne
   last_spelled : values_of i (k ∷ []) (fields text) ≡ Ok vs → (fields text ≡ text ∷ []) ⊎ FirstField text → SpellsValues (k ∷ []) text vs
   last_spelled e (inl one) =
       let r = read_first i k [] text [] vs (sym (ap (values_of i (k ∷ [])) one) ∙ e) in
-      let none = no_values (i + 1) [] r.values r.behind in
+      let none = no_values (i + 1) [] r.values r.rest in
       let all : r.value ∷ [] ≡ vs = ap (λ (ws : List Value). r.value ∷ ws) (sym none.0) ∙ r.all in
       subst (SpellsValues (k ∷ []) text) all (form.last (value_spelled k i text r.value (clean_first text text [] line one) r.read))
   last_spelled e (inr first) =
       let r = read_first i k [] first.field (fields first.more) vs (sym (ap (values_of i (k ∷ [])) first.fields_are) ∙ e) in
-      let none = no_values (i + 1) (fields first.more) r.values r.behind in
+      let none = no_values (i + 1) (fields first.more) r.values r.rest in
       absurd (omega (arith, none.1, some_field first.more))
 
   next_spelled : (l : Kind) (ks : List Kind) → ((more : List ℕ) (ws : List Value) → has_newline more ≡ false → values_of (i + 1) (l ∷ ks) (fields more) ≡ Ok ws → SpellsValues (l ∷ ks) more ws)
       → values_of i (k ∷ l ∷ ks) (fields text) ≡ Ok vs → (fields text ≡ text ∷ []) ⊎ FirstField text → SpellsValues (k ∷ l ∷ ks) text vs
-  next_spelled l ks behind e (inl one) =
+  next_spelled l ks later e (inl one) =
       let r = read_first i k (l ∷ ks) text [] vs (sym (ap (values_of i (k ∷ l ∷ ks)) one) ∙ e) in
-      absurd (too_few (i + 1) l ks r.values r.behind)
-  next_spelled l ks behind e (inr first) =
+      absurd (too_few (i + 1) l ks r.values r.rest)
+  next_spelled l ks later e (inr first) =
       let r = read_first i k (l ∷ ks) first.field (fields first.more) vs (sym (ap (values_of i (k ∷ l ∷ ks)) first.fields_are) ∙ e) in
-      let rest = behind first.more r.values (newline_behind first.field first.more (sym (ap has_newline first.is) ∙ line)) r.behind in
+      let rest = later first.more r.values (newline_after first.field first.more (sym (ap has_newline first.is) ∙ line)) r.rest in
       let value = value_spelled k i first.field r.value (clean_first text first.field (fields first.more) line first.fields_are) r.read in
       let whole : SpellsValues (k ∷ l ∷ ks) (first.field ++ 9 ∷ first.more) (r.value ∷ r.values) = form.next value rest in
       subst (SpellsValues (k ∷ l ∷ ks) text) r.all (subst (λ (bs : List ℕ). SpellsValues (k ∷ l ∷ ks) bs (r.value ∷ r.values)) (sym first.is) whole)
@@ -153,7 +152,7 @@ minus_read : (ds : List ℕ) → is_numeral ds ≡ true → number_after 0 ds �
 minus_read ds digits small =
     let m = number_after 0 ds in
     let fits : nat_lt m (2 ^ 63 + 1) ≡ true = grind (arith, nat_tests, small) in
-    ap (λ (b : Bool). cond b (Some (neg_ℤ (pos m))) None) (and_true (is_numeral ds) (nat_lt m (2 ^ 63 + 1)) digits fits)
+    ap (λ (b : Bool). cond b (Some (neg_ℤ (pos m))) None) (and_from (is_numeral ds) (nat_lt m (2 ^ 63 + 1)) digits fits)
 
 -- a number that is spelled is read
 pub long_read : (f : List ℕ) (n : ℤ) → SpellsLong f n → long_at f ≡ Some n

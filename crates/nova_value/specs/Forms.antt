@@ -8,6 +8,7 @@ use Rattle.nova_value.specs.declared.value.Kind.{Kind}
 use Rattle.nova_value.specs.declared.value.Kind.TheVariants as kind
 use Rattle.nova_value.specs.declared.schema.Entry.{Entry}
 use Rattle.nova_value.specs.declared.schema.Entry.TheVariants.{Put, Removal}
+use Rattle.nova_value.specs.declared.limit.TheConstants.{MAX_TEXT_BYTES}
 use Rattle.nova_value.specs.Text.{IsText}
 use Rattle.nova_value.specs.Rows.{Shape, kinds, key_kinds}
 use Rattle.nova_value.specs.declared.fault.RowFault.{RowFault}
@@ -37,13 +38,13 @@ pub data Spells (s : Shape) : List ℕ → Entry → Type 0 where
 -- what is wrong with field n, in a column of a kind; of a text its length comes first
 pub data FieldFails (n : ℕ) : Kind → List ℕ → RowFault → Type 0 where
   no_number : {f : List ℕ} → ((z : ℤ) → SpellsLong f z → ⊥) → FieldFails n kind.Long f (BadNumber n)
-  too_long : {f : List ℕ} → 65535 < length f → FieldFails n kind.Text f (TooLong n)
-  no_text : {f : List ℕ} → length f ≤ 65535 → is_utf8 f ≡ false → FieldFails n kind.Text f (NotUtf8 n)
+  too_long : {f : List ℕ} → MAX_TEXT_BYTES < length f → FieldFails n kind.Text f (TooLong n)
+  no_text : {f : List ℕ} → length f ≤ MAX_TEXT_BYTES → is_utf8 f ≡ false → FieldFails n kind.Text f (NotUtf8 n)
 
 -- of the fields from n on, the first bad one
 pub data FirstBad : ℕ → List Kind → List (List ℕ) → RowFault → Type 0 where
   here : {n : ℕ} {k : Kind} {ks : List Kind} {f : List ℕ} {fs : List (List ℕ)} {fault : RowFault} → FieldFails n k f fault → FirstBad n (k ∷ ks) (f ∷ fs) fault
-  behind : {n : ℕ} {k : Kind} {ks : List Kind} {f : List ℕ} {fs : List (List ℕ)} {v : Value} {fault : RowFault} → SpellsValue k f v → FirstBad (n + 1) ks fs fault → FirstBad n (k ∷ ks) (f ∷ fs) fault
+  later : {n : ℕ} {k : Kind} {ks : List Kind} {f : List ℕ} {fs : List (List ℕ)} {v : Value} {fault : RowFault} → SpellsValue k f v → FirstBad (n + 1) ks fs fault → FirstBad n (k ∷ ks) (f ∷ fs) fault
 
 -- the number of fields, and then the first bad one
 pub data FieldsFail (ks : List Kind) (bs : List ℕ) : RowFault → Type 0 where

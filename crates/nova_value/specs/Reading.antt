@@ -14,9 +14,9 @@ Fails (TooLong n) read = read ≡ Err (TooLong n)
 Fails (NotUtf8 n) read = read ≡ Err (NotUtf8 n)
 
 -- an answer, seen by view, is what the reading gives, unless memory ran out
-abbrev pub Gives : {X Y : Type 0} → (X → Y) → Result X RowFault → Result Y RowFault → Type 0
-Gives view (Ok x) read = read ≡ Ok (view x)
-Gives view (Err e) read = Fails e read
+abbrev pub IsReadingOf : {X Y : Type 0} → (X → Y) → Result X RowFault → Result Y RowFault → Type 0
+IsReadingOf view (Ok x) read = read ≡ Ok (view x)
+IsReadingOf view (Err e) read = Fails e read
 
 -- the fields after a tab, if there was one
 abbrev pub rest_fields : Option (List ℕ) → List (List ℕ)

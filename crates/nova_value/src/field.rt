@@ -2,9 +2,10 @@
 ghost use Rattle.std.specs.Prelude.{◌≡◌, ◌<◌, false, true, ℕ, ◌∷◌, length, option_copied, IfSome, IfNone, slice_index, ◌≢◌};
 ghost use Rattle.nova_value.specs.Text.{has_newline, is_clean};
 ghost use Rattle.nova_value.specs.Line.{long_at, value_of, fields};
-ghost use Rattle.nova_value.specs.Reading.{Gives, rest_fields, IsFirstTab};
+ghost use Rattle.nova_value.specs.Reading.{IsReadingOf, rest_fields, IsFirstTab};
 
 use crate::fault::RowFault;
+use crate::limit::MAX_TEXT_BYTES;
 use crate::value::{Kind, Str, Value};
 use std::alloc::Global;
 use std::str;
@@ -62,7 +63,7 @@ pub fn count_fields(text: &[u8]) -> usize
 /// The value of field number `at`, in a column of this kind.
 pub fn value_from(alloc: Global, field: &[u8], kind: Kind, at: u32) -> Result<Value, RowFault>
     requires { is_clean field.now ≡ true }
-    ensures { Gives (λ v. v) result (value_of kind at field.now) }
+    ensures { IsReadingOf (λ v. v) result (value_of kind at field.now) }
 {
     match kind {
         Kind::Long => match long_of(field) {
@@ -70,7 +71,7 @@ pub fn value_from(alloc: Global, field: &[u8], kind: Kind, at: u32) -> Result<Va
             None => Err(RowFault::BadNumber { field: at }),
         },
         Kind::Text => {
-            if field.len() > 65535 {
+            if field.len() > MAX_TEXT_BYTES {
                 return Err(RowFault::TooLong { field: at });
             }
             match str::from_utf8(field) {

@@ -3,6 +3,7 @@ ghost use Rattle.std.specs.Prelude.{◌≡◌, ◌<◌, ◌≤◌, length, slice
 ghost use Rattle.nova_value.specs.declared.value.Kind.TheVariants.{Long};
 ghost use Rattle.nova_value.specs.Signs.{kinds_for};
 
+use crate::limit::MAX_COLUMNS;
 use crate::schema::Schema;
 use crate::value::Kind;
 
@@ -16,7 +17,7 @@ pub enum Sign {
 /// How many fields the line has: one for each column, or for each key column.
 pub fn field_count(schema: &Schema, sign: Sign) -> usize
     ensures count { result ≡ length (kinds_for schema.now sign) }
-    ensures few { result ≤ 32 }
+    ensures few { result ≤ MAX_COLUMNS }
 {
     match sign {
         Sign::Put => schema.columns().len(),

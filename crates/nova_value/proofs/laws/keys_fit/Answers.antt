@@ -1,4 +1,4 @@
-use Rattle.nova_value.specs.Entries.{key_fits}
+use Rattle.nova_value.proofs.Fit.{key_fits}
 use Rattle.nova_value.proofs.laws.keys_fit.Goals as goal
 
 pub returns : goal.returns

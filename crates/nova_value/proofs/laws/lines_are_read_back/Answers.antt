@@ -1,4 +1,4 @@
-use Rattle.nova_value.specs.ReadBack.{rows_read_back, removals_read_back}
+use Rattle.nova_value.proofs.ReadBack.{rows_read_back, removals_read_back}
 use Rattle.nova_value.proofs.laws.lines_are_read_back.Goals as goal
 
 pub returns-clause-rows : goal.returns-clause-rows

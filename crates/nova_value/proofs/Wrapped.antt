@@ -1,12 +1,21 @@
 -- A whole number is congruent to exactly one number of 64 bits.
 use Rattle.std.specs.Prelude.{◌≡◌, ℕ, ◌+◌, ◌-◌, ◌<◌, ◌≤◌, ◌^◌, ◌/◌, ◌%◌, ℤ, pos, negsuc, ◌+ℤ◌, ◌*ℤ◌, neg_ℤ}
-use Rattle.std.specs.Int.{int_wrap}
+use Rattle.std.specs.Int.{int_wrap, w64}
+use Rattle.std.specs.Int.RustNames.{FitsSigned}
 use Rattle.std.proofs.Common.{arith, ◌⊎◌, inl, inr, sym, subst, ◌∙◌}
 use Rattle.std.proofs.lemmas.Bool.{cases_lt}
-use Rattle.std.proofs.lemmas.Int.{ints}
+use Rattle.std.proofs.lemmas.Int.{ints, SFits-int_wrap}
 use Rattle.nova_value.specs.Rows.{IsLong}
-use Rattle.nova_value.specs.Wrapped.{wrapped, IsWrapped, wrapped_long}
+use Rattle.nova_value.specs.Wrapped.{wrapped, IsWrapped}
 use Rattle.nova_value.specs.Statements.{WrapsToOne}
+
+-- an `i64` is one
+long_from_fits : (n : ℤ) → FitsSigned w64 n → IsLong n
+long_from_fits (pos n) h = grind (arith, ints)
+long_from_fits (negsuc n) h = grind (arith, ints)
+
+wrapped_long : (x : ℤ) → IsLong (wrapped x)
+wrapped_long x = long_from_fits (int_wrap w64 x) (SFits-int_wrap w64 x)
 
 small : (a : ℕ) → a % 2 ^ 64 < 2 ^ 63 → wrapped (pos a) ≡ pos (a % 2 ^ 64)
 unfolding int_wrap

@@ -1,9 +1,9 @@
 -- What is printed of a row or a key is read as it again.
-use Rattle.std.specs.Prelude.{◌≡◌, ℕ, suc, ◌+◌, ◌^◌, ◌<◌, ℤ, pos, negsuc, Bool, true, false, cond, not, ◌&&◌, ◌||◌, ◌==◌, nat_lt, List, [], ◌∷◌, ◌++◌, map, length, Some, None, Result, Ok, Err, refl}
+use Rattle.std.proofs.Common.{◌≡◌, ℕ, suc, ◌+◌, ◌^◌, ◌<◌, ℤ, pos, negsuc, Bool, true, false, cond, not, ◌&&◌, ◌||◌, ◌==◌, nat_lt, List, [], ◌∷◌, ◌++◌, map, length, Some, None, Result, Ok, Err, refl, ap, ◌∙◌, arith, rules, neg_ℤ}
 use Rattle.std.specs.Fmt.{signed_decimal, decimal}
-use Rattle.std.proofs.Common.{ap, ◌∙◌, arith, rules, neg_ℤ}
 use Rattle.std.specs.Str.{all_ascii_digits}
 use Rattle.std.proofs.lemmas.List.{append-nil, length-map}
+use Rattle.std.proofs.lemmas.Bool.{and_from, or_from}
 use Rattle.std.proofs.lemmas.Bool.Decides.{nat_tests}
 use Rattle.std.proofs.lemmas.Str.Parse.{IsNumeralModel, numerals_by_fold}
 use Rattle.std.proofs.lemmas.Fmt.{digits_decimal, digits_value-decimal, decimal_is_IsNumeral}
@@ -19,7 +19,7 @@ use Rattle.nova_value.specs.Rows.{Shape, IsLong, IsOf, FitKinds, kinds, key_kind
 use Rattle.nova_value.specs.Line.{◌>>=◌, number_after, long_at, fields, long_or, value_of, values_of, fields_of, row_of_text}
 use Rattle.nova_value.specs.RowLine.{value_text, tail_text, joined}
 use Rattle.nova_value.specs.Statements.{RowsReadBack, RemovalsReadBack}
-use Rattle.nova_value.specs.Entries.{length_kinds}
+use Rattle.nova_value.proofs.Fit.{length_kinds}
 
 -- no tab stands in the bytes
 abbrev pub no_tab : List ℕ → Bool
@@ -65,10 +65,6 @@ pub plain_at : (ds : List ℕ) (n : ℕ) → all_ascii_digits ds ≡ true → 0 
 plain_at [] n digits some is small = absurd (omega arith)
 plain_at (d ∷ ds) n digits some is small = grind (arith, nat_tests)
 
-pub and_true : (a b : Bool) → a ≡ true → b ≡ true → (a && b) ≡ true
-and_true true b e f = f
-and_true false b e f = e
-
 some_digit : (n : ℕ) → n < 2 ^ 64 → 0 < length (decimal n)
 some_digit n h = grind (arith, (decimal_is_IsNumeral n h).0)
 
@@ -77,7 +73,7 @@ minus_at [] n digits some is small = absurd (omega arith)
 minus_at (d ∷ ds) n digits some is small =
     let m = number_after 0 (d ∷ ds) in
     let fits : nat_lt m (2 ^ 63 + 1) ≡ true = grind (arith, nat_tests, is) in
-    ap (λ (b : Bool). cond b (Some (neg_ℤ (pos m))) None) (and_true (all_ascii_digits (d ∷ ds)) (nat_lt m (2 ^ 63 + 1)) digits fits) ∙ ap (λ (j : ℕ). Some (neg_ℤ (pos j))) is
+    ap (λ (b : Bool). cond b (Some (neg_ℤ (pos m))) None) (and_from (all_ascii_digits (d ∷ ds)) (nat_lt m (2 ^ 63 + 1)) digits fits) ∙ ap (λ (j : ℕ). Some (neg_ℤ (pos j))) is
 
 long_again : (n : ℤ) → IsLong n → long_at (signed_decimal n) ≡ Some n
 long_again (pos n) h = plain_at (decimal n) n (digits_decimal own n (omega arith)) (some_digit n (omega arith)) (digits_value-decimal own n (omega arith)) h
@@ -136,21 +132,17 @@ newline-value kind.Text (Text bs) h = newline-clean bs h.clean
 newline-value kind.Long (Text bs) h = absurd h
 newline-value kind.Text (Long n) h = absurd h
 
-neither : (a b : Bool) → a ≡ false → b ≡ false → (a || b) ≡ false
-neither true b e f = e
-neither false b e f = f
-
 newline-tail : (ks : List Kind) (vs : List Value) → FitKinds ks vs → has_newline (tail_text vs) ≡ false
 newline-tail [] [] h = refl
 newline-tail [] (v ∷ vs) h = absurd h
 newline-tail (k ∷ ks) [] h = absurd h
-newline-tail (k ∷ ks) (v ∷ vs) h = newline-append (value_text v) (tail_text vs) ∙ neither _ _ (newline-value k v h.0) (newline-tail ks vs h.1)
+newline-tail (k ∷ ks) (v ∷ vs) h = newline-append (value_text v) (tail_text vs) ∙ or_from _ _ (newline-value k v h.0) (newline-tail ks vs h.1)
 
 newline-joined : (ks : List Kind) (vs : List Value) → FitKinds ks vs → has_newline (joined vs) ≡ false
 newline-joined [] [] h = refl
 newline-joined [] (v ∷ vs) h = absurd h
 newline-joined (k ∷ ks) [] h = absurd h
-newline-joined (k ∷ ks) (v ∷ vs) h = newline-append (value_text v) (tail_text vs) ∙ neither _ _ (newline-value k v h.0) (newline-tail ks vs h.1)
+newline-joined (k ∷ ks) (v ∷ vs) h = newline-append (value_text v) (tail_text vs) ∙ or_from _ _ (newline-value k v h.0) (newline-tail ks vs h.1)
 
 pub length-key_kinds : (s : Shape) → length (key_kinds s) ≡ length s.key
 length-key_kinds s = simp length-map

@@ -1,2 +1,0 @@
-pub mod Statement
-pub mod Reads

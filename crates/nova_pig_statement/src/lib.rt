@@ -1,9 +1,0 @@
-//! Statements of scripts, each read from its own tokens.
-#![tactic(auto)]
-
-mod item;
-mod statement;
-#[cfg(test)]
-mod tests;
-
-pub use statement::{cut_body, one_statement, statement_body};

@@ -36,10 +36,12 @@ module _ {K X : Type 0} (R : K → K → Ordering) (o : IsTotalOrder R) where
   below_less k x [] p h = tt
   below_less k x (e ∷ es) p h = both _ _ (subst (λ r. T (is_lt r)) (sym (o.trans k x e.0 p (less _ (first _ _ h)))) tt) (below_less k x es p (second _ _ h))
 
+  -- a key that ties with one below all others is below them too
   pub below_equal : (k x : K) (es : List (K × X)) → R k x ≡ Equal → T (below_all R x es) → T (below_all R k es)
   below_equal k x [] p h = tt
   below_equal k x (e ∷ es) p h = both _ _ (subst (λ r. T (is_lt r)) (sym (o.congr k x e.0 p)) (first _ _ h)) (below_equal k x es p (second _ _ h))
 
+  -- a key below all others is none of them
   pub missing : (k : K) (es : List (K × X)) → T (below_all R k es) → find R k es ≡ None
   missing k [] h = refl
   missing k (e ∷ es) h = ap (λ r. cond (is_eq r) (Some e.1) (find R k es)) (less _ (first _ _ h)) ∙ missing k es (second _ _ h)
@@ -49,6 +51,7 @@ module _ {K X : Type 0} (R : K → K → Ordering) (o : IsTotalOrder R) where
   without_below k (e ∷ es) h =
       ap (λ r. cond (not (is_eq r)) (e ∷ without k es) (without k es)) (less _ (first _ _ h)) ∙ ap (λ (fs : List (K × X)). e ∷ fs) (without_below k es (second _ _ h))
 
+  -- a list in order has its values around each key
   pub list_around : (k : K) (es : List (K × X)) → T (is_sorted R es) → ListAround k es
   list_around k [] h = record { prefix = []; suffix = []; now = refl; put = λ v. refl; gone = refl }
   list_around k (e ∷ es) h = by_place (R k e.0) refl (list_around k es (second _ _ h))

@@ -45,6 +45,7 @@ updated (e ∷ es) f h q =
     ∙ ap (λ b. later (lookup (is_at (key_cmp q)) es) (cond b (Some e.1) (f q))) ((eq_by_cmp_equiv keys_total).symm e.0 q)
     ∙ later_cond (eq_by_cmp key_cmp q e.0) e.1 (lookup (is_at (key_cmp q)) es) (f q) (λ ties. past q e.0 es ties (first _ _ h))
 
+-- pairs that rise make the map that setting them in turn makes
 pub map_of_rising : (es fs : List (List Value × Entry)) → T (is_sorted key_cmp es) → ((q : List Value) → lookup (is_at (key_cmp q)) fs ≡ update_all (eq_by_cmp key_cmp) (λ _. None) es q) → entry_map fs ≡ entry_map es
 map_of_rising es fs h is = same_entries _ _ (λ q. get-seen keys_total fs q ∙ is q ∙ updated es (λ _. None) h q ∙ later_none _ ∙ sym (get-seen keys_total es q))
 
@@ -55,6 +56,7 @@ abbrev pub last_of : Entry → List Entry → Entry
 last_of d [] = d
 last_of d (e ∷ es) = last_of e es
 
+-- the entry at the last place is the last
 pub last_is : (d e : Entry) (es : List Entry) → get_or (d ∷ es) (length es) e ≡ last_of d es
 last_is d e [] = refl
 last_is d e (f ∷ es) = last_is f e es
@@ -96,12 +98,14 @@ module _ (s : Shape) (e : Entry) where
 
 -- ---- the order of two keys, value by value
 
+-- where values at a place are equal, the values after it decide
 pub then_equal : (i : ℕ) (xs ys : List Value) (d : Value) → i < length xs → i < length ys → value_cmp (get_or xs i d) (get_or ys i d) ≡ Equal → key_cmp (drop i xs) (drop i ys) ≡ key_cmp (drop (i + 1) xs) (drop (i + 1) ys)
 then_equal i xs ys d in_xs in_ys same =
     ap (λ (zs : List Value). key_cmp zs (drop i ys)) (drop-cons xs i d in_xs) ∙ ap (key_cmp (get_or xs i d ∷ drop (suc i) xs)) (drop-cons ys i d in_ys)
     ∙ ap (λ o. ordering_then o (key_cmp (drop (suc i) xs) (drop (suc i) ys))) same
     ∙ ap (λ (j : ℕ). key_cmp (drop j xs) (drop j ys)) (sym (add-one i))
 
+-- where they are not, they decide
 pub then_decided : (o : Ordering) (i : ℕ) (xs ys : List Value) (d : Value) → i < length xs → i < length ys → value_cmp (get_or xs i d) (get_or ys i d) ≡ o → (o ≡ Equal → ⊥) → key_cmp (drop i xs) (drop i ys) ≡ o
 then_decided o i xs ys d in_xs in_ys is isnt =
     ap (λ (zs : List Value). key_cmp zs (drop i ys)) (drop-cons xs i d in_xs) ∙ ap (key_cmp (get_or xs i d ∷ drop (suc i) xs)) (drop-cons ys i d in_ys)
@@ -115,12 +119,14 @@ then_decided o i xs ys d in_xs in_ys is isnt =
 
 -- ---- how many values a key has
 
+-- values that fit are as many as the kinds
 pub length_fit : (ks : List Kind) (vs : List Value) → FitKinds ks vs → length vs ≡ length ks
 length_fit [] [] h = refl
 length_fit [] (v ∷ vs) h = absurd h
 length_fit (k ∷ ks) [] h = absurd h
 length_fit (k ∷ ks) (v ∷ vs) h = ap suc (length_fit ks vs h.1)
 
+-- a row has a value for each column, and a key one for each place
 pub length_row : (s : Shape) (row : List Value) → FitsRow s row → length row ≡ length s.columns
 length_row s row h = length_fit (kinds s.columns) row h ∙ length-map s.columns (λ (c : Column). c.kind)
 
@@ -128,6 +134,7 @@ pub length_key : (s : Shape) (e : Entry) → FitsEntry s e → length (entry_key
 length_key s (Put row) h = length-map s.key (value_at row)
 length_key s (Removal key) h = length_fit (key_kinds s) key h ∙ length-map s.key (λ p. slice_index_or (kinds s.columns) p kind.Long)
 
+-- a value of the key of a row is the one at its place
 pub key_value_put : (s : Shape) (row : List Value) (i : ℕ) (v : Value) → i < length s.key → slice_index_or s.key i 0 < length row → v ≡ get_or row (slice_index_or s.key i 0) v → v ≡ get_or (key_at s.key row) i (Long (pos 0))
 key_value_put s row i v within in_row is = is ∙ get_or_default row (slice_index_or s.key i 0) v (Long (pos 0)) in_row ∙ sym (get_or-map (value_at row) s.key i 0 (Long (pos 0)) within)
 
@@ -137,6 +144,7 @@ drop_past zero (x ∷ xs) h = absurd (omega arith)
 drop_past (suc i) [] h = refl
 drop_past (suc i) (x ∷ xs) h = drop_past i xs (omega arith)
 
+-- where both have no value left they are equal
 pub ends_equal : (i : ℕ) (xs ys : List Value) → length xs ≤ i → length ys ≤ i → key_cmp (drop i xs) (drop i ys) ≡ Equal
 ends_equal i xs ys h g = ap (λ (zs : List Value). key_cmp zs (drop i ys)) (drop_past i xs h) ∙ ap (key_cmp []) (drop_past i ys g)
 
@@ -146,6 +154,7 @@ last_get : (d : Entry) (es : List Entry) → slice_get (d ∷ es) (length es) �
 last_get d [] = refl
 last_get d (e ∷ es) = last_get e es
 
+-- entries that rise still rise with one more exactly where its key is above that of the last
 pub above_last : (s : Shape) (es : List Entry) (e last : Entry) → T (rises s es) → Some last ≡ slice_get es (length es - 1) → rises s (es ++ e ∷ []) ≡ is_lt (key_cmp (entry_key s last) (entry_key s e))
 above_last s [] e last h is = absurd cc
 above_last s (d ∷ es) e last h is =
@@ -166,5 +175,6 @@ found s (x ∷ xs) fit q e is =
       | false ↦ λ apart is. found s xs fit.1 q e is
     ] refl is
 
+-- entries that fit make a delta
 pub rising_delta : (s : Shape) (es : List Entry) → AllByRecursion (FitsEntry s) es → IsDelta (delta_of s es)
 rising_delta s es fit = record { each = λ k e got. found s es fit k e (sym (get-seen keys_total (at_keys (entry_key s) es) k) ∙ got) }

@@ -26,6 +26,7 @@ pub later_none : (o : Option Entry) → later o None ≡ o
 later_none None = refl
 later_none (Some e) = refl
 
+-- nothing chained changes nothing, first or last
 pub chained-empty_first : (d : EntryMap) → chained empty d ≡ d
 chained-empty_first d = same_entries _ _ (λ k. get-chained empty d k ∙ ap (later (get d k)) (get-empty key_cmp k) ∙ later_none (get d k))
 
@@ -42,6 +43,7 @@ put_or_none true o e = refl
 put_or_none false None e = refl
 put_or_none false (Some x) e = cc
 
+-- what is left at each key
 pub get-puts : (d : EntryMap) (q : List Value) → get (puts d) q ≡ put_only (get d q)
 unfolding puts
 get-puts d q = get-tabulated_listed exact_keys q (λ k. put_only (get d k)) keys_total (keys d) ∙ put_or_none _ (get d q) (sym (contains_key-keys d q))

@@ -1,3 +1,12 @@
-pub mod Folded
+pub mod Conditions
+pub mod OrderedMap
+pub mod Merging
+pub mod Listed
+pub mod InTurn
+pub mod Keeps
 pub mod Keyed
 pub mod Puts
+pub mod Around
+pub mod Mapped
+pub mod Folded
+pub mod InOrder

@@ -1,4 +1,4 @@
--- What the fields of a line are of.
+-- What the fields of a line or an entry are of.
 use Rattle.std.specs.Prelude.{List}
 use Rattle.nova_value.specs.declared.value.Kind.{Kind}
 use Rattle.nova_value.specs.declared.sign.Sign.{Sign}

@@ -1,4 +1,4 @@
-//! What a line of text has a field for.
+//! What a line of text or an entry has a field for.
 ghost use Rattle.std.specs.Prelude.{◌≡◌, ◌<◌, ◌≤◌, length, slice_index_or};
 ghost use Rattle.nova_value.specs.declared.value.Kind.TheVariants.{Long};
 ghost use Rattle.nova_value.specs.Signs.{kinds_for};
@@ -7,14 +7,14 @@ use crate::limit::MAX_COLUMNS;
 use crate::schema::Schema;
 use crate::value::Kind;
 
-/// Whether a line puts a row or removes a key.
+/// Whether a line or an entry puts a row or removes a key.
 #[derive(Clone, Copy)]
 pub enum Sign {
     Put,
     Removal,
 }
 
-/// How many fields the line has: one for each column, or for each key column.
+/// How many fields it has: one for each column, or for each key column.
 pub fn field_count(schema: &Schema, sign: Sign) -> usize
     ensures count { result ≡ length (kinds_for schema.now sign) }
     ensures few { result ≤ MAX_COLUMNS }

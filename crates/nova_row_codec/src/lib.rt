@@ -1,0 +1,16 @@
+//! Entries and deltas as bytes.
+#![tactic(auto)]
+
+mod decoding;
+mod encoding;
+mod fault;
+mod laws;
+mod list;
+#[cfg(test)]
+mod tests;
+
+pub use decoding::decode_entry;
+pub use encoding::encode_entry;
+pub use fault::CodecFault;
+pub use laws::{blocks_are_spelled_once, entries_are_spelled_once, entries_have_three_bytes};
+pub use list::decode_list;

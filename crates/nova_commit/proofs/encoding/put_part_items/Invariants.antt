@@ -1,0 +1,7 @@
+use Rattle.std.proofs.Common.{◌≡◌, ◌++◌, take}
+use Rattle.std.specs.List.{flat_map}
+use Rattle.nova_commit.specs.Commits.{part_bytes}
+use Rattle.nova_commit.proofs.encoding.put_part_items.Given as goal
+
+abbrev pub invariant-loop-part : goal.invariant-loop-part
+invariant-loop-part l = l.out.items ≡ l.fn.out.items ++ flat_map part_bytes (take l.part-index l.parts)

@@ -1,0 +1,26 @@
+//! Laws of commits. Each is the contract of a function that does nothing.
+ghost use Rattle.nova_meta.specs.Named.{BlocksAreNumbered, CommitsCompose, ListsSpelledOnce};
+ghost use Rattle.nova_meta.specs.Sound.{CatalogsAreSound};
+
+/// Commits in order are told by their bytes: no two lists of them have one list of spellings.
+pub fn lists_are_spelled_once()
+    ensures { ListsSpelledOnce }
+{}
+
+/// The catalog of a list of commits is made one commit at a time.
+pub fn commits_compose()
+    ensures { CommitsCompose }
+{}
+
+/// A catalog of commits in order has the numbers of its workflow and intervals in order, no counter
+/// of it is above its bound, and of each channel a path leads to the newest version from 0 and from
+/// each cursor of an input that is read as new.
+pub fn catalogs_are_sound()
+    ensures { CatalogsAreSound }
+{}
+
+/// Each block that a catalog of commits in order names is before the next one, and it is named for
+/// one interval of a channel or one state part of a task.
+pub fn blocks_are_numbered()
+    ensures { BlocksAreNumbered }
+{}

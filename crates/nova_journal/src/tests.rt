@@ -131,3 +131,22 @@ fn each_call_that_fails_is_a_disk_fault(rt: HostRuntime) -> Result<(), Fail> {
     );
     Ok(())
 }
+
+#[test]
+fn each_call_makes_so_many_of_the_host(rt: HostRuntime) -> Result<(), Fail> {
+    let mut shelf = Shelf::new(rt.alloc());
+    let framed = framed(rt.alloc(), 60)?;
+    let journal = Journal::create(&mut shelf, 0, &framed)?;
+    assert_eq!(rt; shelf.calls_since(), 4, "create");
+    let journal = journal.mark(&mut shelf)?;
+    assert_eq!(rt; shelf.calls_since(), 2, "mark");
+    let journal = journal.append(&mut shelf, &framed)?;
+    assert_eq!(rt; shelf.calls_since(), 4, "append");
+    let _ = journal.append(&mut shelf, &framed)?;
+    assert_eq!(rt; shelf.calls_since(), 4, "the next append");
+    let (journal, _) = Journal::reopen(rt.alloc(), &mut shelf)?;
+    assert_eq!(rt; shelf.calls_since(), 7, "reopen, of two files");
+    let _ = journal.append(&mut shelf, &framed)?;
+    assert_eq!(rt; shelf.calls_since(), 4, "append once opened");
+    Ok(())
+}

@@ -37,6 +37,9 @@ impl MemHost {
         ensures replies { replies (history_of result.disk) ≡ [] }
         ensures told { result.told.items ≡ [] }
         ensures calls { result.calls ≡ 0 }
+        ensures disk_faults { result.disk_faults ≡ 0 }
+        ensures reply_faults { result.reply_faults ≡ 0 }
+        ensures read_count { result.read_count ≡ 0 }
         ensures starved { result.starved ≡ 0 }
     {
         MemHost {
@@ -55,7 +58,7 @@ impl MemHost {
         ensures told { OnOk result (self.new.told.items ≡ self.old.told.items ++ call ∷ []) }
         ensures err { OnErr result (self.new.told.items ≡ self.old.told.items) }
         ensures disk { self.new.disk ≡ self.old.disk }
-        ensures calls { self.new.calls ≡ self.old.calls }
+        ensures rest { self.new ≡ record self.old { told = self.new.told } }
     {
         self.told.push(call)?;
         Ok(())
@@ -106,8 +109,7 @@ impl MemHost {
         ensures others { SameBut file (current (history_of self.old.disk)) (current (history_of self.new.disk)) }
         ensures settled { (n : ℕ) → Only (current (history_of self.new.disk) n) (Outcome (history_of self.new.disk) n) }
         ensures replies { replies (history_of self.new.disk) ≡ replies (history_of self.old.disk) }
-        ensures calls { self.new.calls ≡ self.old.calls }
-        ensures told { self.new.told ≡ self.old.told }
+        ensures rest { self.new ≡ record self.old { disk = self.new.disk } }
     {
         self.disk.edit(file, at, byte);
     }
@@ -119,8 +121,7 @@ impl MemHost {
         ensures others { SameBut file (current (history_of self.old.disk)) (current (history_of self.new.disk)) }
         ensures settled { (n : ℕ) → Only (current (history_of self.new.disk) n) (Outcome (history_of self.new.disk) n) }
         ensures replies { replies (history_of self.new.disk) ≡ replies (history_of self.old.disk) }
-        ensures calls { self.new.calls ≡ self.old.calls }
-        ensures told { self.new.told ≡ self.old.told }
+        ensures rest { self.new ≡ record self.old { disk = self.new.disk } }
     {
         self.disk.cut(file, length);
     }

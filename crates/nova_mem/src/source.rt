@@ -1,5 +1,5 @@
 //! Sources over bytes in memory.
-ghost use Rattle.std.specs.Prelude.{◌≡◌, ◌≤◌, ◌↔◌, ◌+◌, ◌<◌, ℕ, Option, List, Some, IsErr, IfOk, OnOk, OnErr, ◌++◌, ◌∷◌, [], min, length, take, drop};
+ghost use Rattle.std.specs.Prelude.{◌≡◌, ◌≤◌, ◌↔◌, ◌+◌, ◌-◌, ◌^◌, ◌<◌, ℕ, Option, List, Some, IsErr, IfOk, OnOk, OnErr, ◌++◌, ◌∷◌, [], min, length, take, drop};
 ghost use Rattle.std.specs.Io.{ReadsAtMost};
 ghost use Rattle.std.specs.Io.KnownBytes.{ReadConsumes};
 ghost use Rattle.nova_outside.specs.Causes.{HasCause};
@@ -19,6 +19,21 @@ fn copy_front(bytes: &[u8], most: usize, into: &mut [u8]) -> usize
     count
 }
 
+// How many bytes the piece of this turn has at most; then it is the turn of the next.
+fn next_piece(turn: &mut usize, pieces: &[usize]) -> usize
+    requires { turn.old ≤ length pieces.now }
+    ensures some { 1 ≤ result }
+    ensures length { result ≡ piece_at turn.old pieces.now }
+    ensures moved { turn.new ≡ min (turn.old + 1) (length pieces.now) }
+{
+    if *turn >= pieces.len() {
+        return usize::MAX;
+    }
+    let piece = pieces[*turn];
+    *turn += 1;
+    piece.max(1)
+}
+
 /// A source that gives its bytes in pieces, and fails where it was told to.
 #[derive(Drop)]
 pub struct MemSource {
@@ -30,6 +45,7 @@ pub struct MemSource {
     calls: u64,
     faults: u64,
     ghost within: { at ≤ length bytes.items },
+    ghost turned: { turn ≤ length pieces.items },
 }
 
 impl MemSource {
@@ -37,7 +53,12 @@ impl MemSource {
     /// later ones give whatever fits.
     pub fn new(alloc: Global, bytes: Vec<u8>, pieces: Vec<usize>) -> MemSource
         ensures bytes { result.bytes ≡ bytes }
+        ensures pieces { result.pieces ≡ pieces }
+        ensures told { result.told.items ≡ [] }
         ensures start { result.at ≡ 0 }
+        ensures turn { result.turn ≡ 0 }
+        ensures calls { result.calls ≡ 0 }
+        ensures faults { result.faults ≡ 0 }
     {
         MemSource {
             bytes,
@@ -55,27 +76,14 @@ impl MemSource {
         ensures told { OnOk result (self.new.told.items ≡ self.old.told.items ++ call ∷ []) }
         ensures err { OnErr result (self.new.told.items ≡ self.old.told.items) }
         ensures bytes { self.new.bytes ≡ self.old.bytes }
+        ensures pieces { self.new.pieces ≡ self.old.pieces }
         ensures at { self.new.at ≡ self.old.at }
+        ensures turn { self.new.turn ≡ self.old.turn }
+        ensures calls { self.new.calls ≡ self.old.calls }
         ensures faults { self.new.faults ≡ self.old.faults }
     {
         self.told.push(call)?;
         Ok(())
-    }
-
-    // How many bytes the next piece has at most.
-    fn next_piece(&mut self) -> usize
-        ensures some { 1 ≤ result }
-        ensures length { result ≡ piece_at self.old.turn self.old.pieces.items }
-        ensures bytes { self.new.bytes ≡ self.old.bytes }
-        ensures at { self.new.at ≡ self.old.at }
-        ensures faults { self.new.faults ≡ self.old.faults }
-    {
-        if self.turn >= self.pieces.len() {
-            return usize::MAX;
-        }
-        let piece = self.pieces[self.turn];
-        self.turn += 1;
-        piece.max(1)
     }
 }
 
@@ -90,6 +98,13 @@ impl Source for MemSource {
         ensures cause { HasCause self.old.faults self.new.faults result }
         ensures told { IsErr result ↔ IsAmong self.old.calls self.old.told.items }
         ensures piece { IfOk result (λ n. n ≡ min (min (piece_at self.old.turn self.old.pieces.items) (length (drop self.old.at self.old.bytes.items))) (length into.old)) }
+        ensures counted { self.new.calls ≡ min (self.old.calls + 1) (2 ^ 64 - 1) }
+        ensures moved { OnOk result (self.new.turn ≡ min (self.old.turn + 1) (length self.old.pieces.items)) }
+        ensures stayed { OnErr result (self.new.turn ≡ self.old.turn) }
+        ensures same_bytes { self.new.bytes ≡ self.old.bytes }
+        ensures same_pieces { self.new.pieces ≡ self.old.pieces }
+        ensures same_told { self.new.told ≡ self.old.told }
+        ensures no_fault { OnOk result (self.new.faults ≡ self.old.faults) }
     {
         let call = self.calls;
         self.calls = call.saturating_add(1);
@@ -97,7 +112,7 @@ impl Source for MemSource {
             raise(&mut self.faults);
             return Err(Failed);
         }
-        let most = self.next_piece();
+        let most = next_piece(&mut self.turn, &self.pieces);
         let count = copy_front(&self.bytes[self.at..], most, into);
         self.at += count;
         Ok(count)

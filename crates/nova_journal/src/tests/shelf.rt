@@ -66,6 +66,13 @@ impl Shelf {
         }
     }
 
+    /// How many calls were made since it was last asked.
+    pub fn calls_since(&mut self) -> u64 {
+        let calls = self.calls;
+        self.calls = 0;
+        calls
+    }
+
     // Counts a call, which fails where it is the one that does or couldn't be made.
     fn turn(&mut self, done: bool) -> Result<(), Failed>
         ensures same { self.new.bytes_read ≡ self.old.bytes_read }

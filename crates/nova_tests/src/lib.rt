@@ -1,11 +1,8 @@
-//! Tests of the whole program, over a source and a host in memory.
+//! Tests of the whole program where a source or a host fails. The other tests of it are cases of
+//! `nova_cases`.
 #![tactic(auto)]
 
 #[cfg(test)]
 mod faults;
 #[cfg(test)]
 mod run;
-#[cfg(test)]
-mod sessions;
-#[cfg(test)]
-mod stores;

@@ -1,13 +1,13 @@
 //! The program over bytes in memory.
 use nova_engine::nova;
-use nova_mem::{MemHost, MemSource};
+use nova_mem::{MemHost, MemSource, MemSteady};
 use std::alloc::{AllocError, Global};
 
 /// The reply to `init`, which the host of a test holds before others.
 pub const READY: &str = "ready 1 0\n";
 
-/// The words of a command line.
-pub fn words_of(alloc: Global, words: &[&str]) -> Result<Vec<String>, AllocError> {
+// The words of a command line.
+fn words_of(alloc: Global, words: &[&str]) -> Result<Vec<String>, AllocError> {
     let mut all = Vec::new(alloc);
     for word in words {
         all.push(String::from_str(alloc, word)?)?;
@@ -32,10 +32,11 @@ pub fn call(
     Ok(nova(alloc, &words, source, host))
 }
 
-/// `run` on a session, and its status.
+/// `run` on a session, over a source that never fails, and its status.
 pub fn run(alloc: Global, host: &mut MemHost, session: &str) -> Result<u8, AllocError> {
-    let mut source = source_of(alloc, session.as_bytes(), 65536)?;
-    call(alloc, "run", host, &mut source)
+    let words = words_of(alloc, &["run"])?;
+    let mut source = MemSteady::new(session.as_bytes().to_vec(alloc)?);
+    Ok(nova(alloc, &words, &mut source, host))
 }
 
 /// `init`, over a source that fails at once, and its status.

@@ -1,160 +1,236 @@
-// A folder of files with numbers for names.
-ghost use Rattle.std.specs.Prelude.{◌≡◌, ◌<◌, ◌≤◌, ◌^◌, ◌++◌, ◌∷◌, ℕ, length, string_bytes, IfOk, IfSome, IsTrue, Some, ◌↔◌};
-ghost use Rattle.std.specs.Fmt.{decimal};
-ghost use Rattle.nova_dir.specs.Names.{IsPlain};
+//! A folder of numbered files, which one host at a time has.
+ghost use Rattle.std.specs.Prelude.{◌≡◌, ◌≤◌, length, IfOk, IfSome};
+ghost use Rattle.nova_outside.specs.Disk.{IsAfter};
 
-use std::alloc::{AllocError, Global};
-use std::collections::BTreeSet;
+use crate::files::{
+    lock_in, numbers_in, open_file, path_of, read_file, size_of, sync_path, write_whole,
+};
+use std::alloc::{AllocError, AllocGlobal};
+use std::collections::{BTreeMap, BTreeSet};
 use std::fs::{File, OpenFile, OpenOptions};
-use std::io::{ErrorKind, Read, Seek, SeekFrom, Write};
+use std::io::{ErrorKind, Seek, SeekFrom};
+use std::ops::Bound;
 use std::rt::Files;
 use std::{fs, io};
 
-// Whether a text begins with no plus and no needless zero.
-fn is_plain(text: &[u8]) -> bool
-    ensures { IsTrue result ↔ IsPlain text.now }
-{
-    match text.first() {
-        Some(first) => *first != b'+' && (*first != b'0' || text.len() == 1),
-        None => true,
+/// The files of a folder. The lock is taken at the first call that finds the folder, and kept, so
+/// nobody else changes what was read.
+#[derive(Drop)]
+pub struct Folder<'a, R: Files<File = File> + AllocGlobal> {
+    rt: &'a R,
+    path: &'a str,
+    lock: Option<File>,
+    // whether a call was answered since there was no folder
+    was_missing: bool,
+    // the numbers of the files, from one `next_file` to the next
+    listing: Option<BTreeSet<u64>>,
+    // the files that were made or written and not synced since
+    written: BTreeMap<u64, File>,
+    // whether each name that was made or removed in the folder lasts
+    is_synced: bool,
+    is_parent_synced: bool,
+}
+
+impl<'a, R: Files<File = File> + AllocGlobal> Folder<'a, R> {
+    /// The folder at a path, which needn't be there yet.
+    pub fn new(rt: &'a R, path: &'a str) -> Folder<'a, R>
+        ensures { result.path.now ≡ path.now }
+    {
+        Folder {
+            rt,
+            path,
+            lock: None,
+            was_missing: false,
+            listing: None,
+            written: BTreeMap::new(rt.alloc()),
+            is_synced: false,
+            is_parent_synced: false,
+        }
     }
-}
 
-// The number whose decimal digits a name is.
-fn number_of(name: &str) -> Option<u64>
-    ensures some { IfSome result (λ n. decimal n ≡ name.now) }
-    ensures all { (n : ℕ) → n < 2 ^ 64 → decimal n ≡ name.now → result ≡ Some n }
-{
-    if !is_plain(name.as_bytes()) {
-        return None;
+    fn path_of(&self, file: u64) -> Result<String, AllocError> {
+        path_of(self.rt.alloc(), self.path, file)
     }
-    match name.parse::<u64>() {
-        Ok(number) => Some(number),
-        Err(_) => None,
+
+    // Takes the lock, where the folder is there, and answers whether it is. Files that came after
+    // a call had found no folder are another's.
+    fn lock(&mut self) -> io::Result<bool> {
+        if self.lock.is_some() {
+            return Ok(true);
+        }
+        let Some(lock) = lock_in(self.rt, self.rt.alloc(), self.path)? else {
+            self.was_missing = true;
+            return Ok(false);
+        };
+        if self.was_missing && !numbers_in(self.rt, self.rt.alloc(), self.path)?.is_empty() {
+            return Err(ErrorKind::ResourceBusy.into());
+        }
+        self.lock = Some(lock);
+        Ok(true)
     }
-}
 
-/// The path of a file.
-pub fn path_of(alloc: Global, folder: &str, file: u64) -> Result<String, AllocError>
-    ensures { IfOk result (λ path. string_bytes path ≡ folder.now ++ (47 ∷ decimal file)) }
-{
-    format!(in alloc; "{folder}/{file}")
-}
-
-/// The length of a file in bytes, or None where it is absent.
-pub fn size_of<R: Files>(rt: &R, path: &str) -> io::Result<Option<u64>> {
-    match fs::metadata(rt, path) {
-        Ok(found) => Ok(Some(found.len())),
-        Err(error) if error.kind() == ErrorKind::NotFound => Ok(None),
-        Err(error) => Err(error),
-    }
-}
-
-// The folder that a folder stands in.
-fn parent_of(folder: &str) -> &str {
-    match folder.rsplit_once('/') {
-        Some((parent, _)) if parent.is_empty() => "/",
-        Some((parent, _)) => parent,
-        None => ".",
-    }
-}
-
-fn sync_folder<R: Files>(rt: &R, folder: &str) -> io::Result<()> {
-    File::open(rt, folder)?.sync_all()
-}
-
-// Makes the folder and its name last. A folder that is there already stays.
-fn make_folder<R: Files>(rt: &R, folder: &str) -> io::Result<()> {
-    match fs::create_dir(rt, folder) {
-        Ok(()) => sync_folder(rt, parent_of(folder)),
-        Err(error) if error.kind() == ErrorKind::AlreadyExists => Ok(()),
-        Err(error) => Err(error),
-    }
-}
-
-/// Makes a file, empty, and the folder where it is missing.
-pub fn create_file<R: Files>(rt: &R, folder: &str, path: &str) -> io::Result<()> {
-    match File::create(rt, path) {
-        Ok(_) => Ok(()),
-        Err(error) if error.kind() == ErrorKind::NotFound => {
-            make_folder(rt, folder)?;
-            File::create(rt, path)?;
+    // Makes the folder where it is missing, and takes the lock.
+    fn make(&mut self) -> io::Result<()> {
+        if self.lock()? {
+            return Ok(());
+        }
+        match fs::create_dir(self.rt, self.path) {
+            Ok(()) => {}
+            Err(error) if error.kind() == ErrorKind::AlreadyExists => {}
+            Err(error) => return Err(error),
+        }
+        if self.lock()? {
             Ok(())
+        } else {
+            Err(ErrorKind::NotFound.into())
         }
-        Err(error) => Err(error),
+    }
+
+    /// The length of a file in bytes, or None where it is absent.
+    pub fn size(&mut self, file: u64) -> io::Result<Option<u64>> {
+        if !self.lock()? {
+            return Ok(None);
+        }
+        size_of(self.rt, self.path_of(file)?.as_str())
+    }
+
+    /// Reads bytes of a file from an offset on, as many as there are and fit.
+    pub fn read(&mut self, file: u64, at: u64, into: &mut [u8]) -> io::Result<usize>
+        ensures { IfOk result (λ n. n ≤ length into.old) }
+    {
+        if !self.lock()? {
+            return Err(ErrorKind::NotFound.into());
+        }
+        let path = self.path_of(file)?;
+        read_file(self.rt, &path, at, into)
+    }
+
+    /// Makes a file, empty, and the folder where it is missing. What has the name and is no file of
+    /// the store is left, and an error.
+    pub fn create(&mut self, file: u64) -> io::Result<()> {
+        self.make()?;
+        self.listing = None;
+        let path = self.path_of(file)?;
+        let opened = if size_of(self.rt, path.as_str())?.is_some() {
+            OpenOptions::new()
+                .write(true)
+                .truncate(true)
+                .open(self.rt, path.as_str())?
+        } else {
+            self.is_synced = false;
+            File::create_new(self.rt, path.as_str())?
+        };
+        self.written.insert(file, opened)?;
+        Ok(())
+    }
+
+    /// Writes bytes into a file from an offset on. The file stays open until it is synced, so that
+    /// the sync asks the descriptor that wrote.
+    pub fn write(&mut self, file: u64, at: u64, bytes: &[u8]) -> io::Result<()> {
+        if !self.lock()? {
+            return Err(ErrorKind::NotFound.into());
+        }
+        if !self.written.contains_key(&file) {
+            let path = self.path_of(file)?;
+            let opened = open_file(self.rt, &path)?;
+            self.written.insert(file, opened)?;
+        }
+        match self.written.get_mut(&file) {
+            Some(opened) => {
+                opened.seek(SeekFrom::Start(at))?;
+                write_whole(opened, bytes)
+            }
+            None => Err(ErrorKind::NotFound.into()),
+        }
+    }
+
+    // Syncs the bytes of a file, where it is there.
+    fn sync_bytes(&mut self, file: u64) -> io::Result<()> {
+        match self.written.get(&file) {
+            Some(opened) => opened.sync_all()?,
+            None => {
+                let path = self.path_of(file)?;
+                if size_of(self.rt, path.as_str())?.is_some() {
+                    sync_path(self.rt, &path)?;
+                }
+            }
+        }
+        let _ = self.written.remove(&file);
+        Ok(())
+    }
+
+    /// Syncs a file, where it is there, and so that its name or its absence lasts too, the folder:
+    /// where a name was made or removed since that was last synced, and the first time. The first
+    /// time the folder that it stands in is synced as well. A missing folder is made first.
+    pub fn sync(&mut self, file: u64) -> io::Result<()> {
+        self.make()?;
+        self.sync_bytes(file)?;
+        if !self.is_synced {
+            sync_path(self.rt, self.path)?;
+            self.is_synced = true;
+        }
+        if !self.is_parent_synced {
+            let folder = self.path;
+            let parent = format!(in self.rt.alloc(); "{folder}/..")?;
+            sync_path(self.rt, &parent)?;
+            self.is_parent_synced = true;
+        }
+        Ok(())
+    }
+
+    /// Removes a file; one that is absent may be removed.
+    pub fn remove(&mut self, file: u64) -> io::Result<()> {
+        if !self.lock()? {
+            return Ok(());
+        }
+        let path = self.path_of(file)?;
+        if size_of(self.rt, path.as_str())?.is_none() {
+            return Ok(());
+        }
+        self.is_synced = false;
+        let listing = self.listing.take();
+        fs::remove_file(self.rt, path.as_str())?;
+        let _ = self.written.remove(&file);
+        if let Some(mut numbers) = listing {
+            let _ = numbers.remove(&file);
+            self.listing = Some(numbers);
+        }
+        Ok(())
+    }
+
+    /// The least number of a file above this one, or the least of all. The listing is made anew
+    /// where the least of all is asked for or a file was made.
+    pub fn next_file(&mut self, after: Option<u64>) -> io::Result<Option<u64>>
+        ensures { IfOk result (λ found. IfSome found (IsAfter after)) }
+    {
+        if !self.lock()? {
+            return Ok(None);
+        }
+        let kept = if after.is_some() {
+            self.listing.take()
+        } else {
+            None
+        };
+        let numbers = match kept {
+            Some(numbers) => numbers,
+            None => numbers_in(self.rt, self.rt.alloc(), self.path)?,
+        };
+        let found = next_of(&numbers, after);
+        self.listing = Some(numbers);
+        Ok(found)
     }
 }
 
-/// Reads bytes of a file from an offset on, as many as there are and fit.
-pub fn read_file<R: Files>(rt: &R, path: &str, at: u64, into: &mut [u8]) -> io::Result<usize>
-    ensures { IfOk result (λ n. n ≤ length into.old) }
+// The least of the numbers above this one.
+fn next_of(numbers: &BTreeSet<u64>, after: Option<u64>) -> Option<u64>
+    ensures { IfSome result (IsAfter after) }
 {
-    let mut file = File::open(rt, path)?;
-    file.seek(SeekFrom::Start(at))?;
-    let mut done = 0;
-    while done < into.len() {
-        let count = file.read(&mut into[done..])?;
-        if count == 0 {
-            break;
-        }
-        done += count;
-    }
-    Ok(done)
-}
-
-/// Writes bytes into a file from an offset on. A write that takes nothing is an error.
-pub fn write_file<R: Files>(rt: &R, path: &str, at: u64, bytes: &[u8]) -> io::Result<()> {
-    let mut file = OpenOptions::new().write(true).open(rt, path)?;
-    file.seek(SeekFrom::Start(at))?;
-    write_whole(&mut file, bytes)
-}
-
-/// Writes all bytes. A write that takes nothing is an error.
-pub fn write_whole<W: Write>(to: &mut W, bytes: &[u8]) -> io::Result<()> {
-    let mut done = 0;
-    while done < bytes.len() {
-        let count = to.write(&bytes[done..])?;
-        if count == 0 {
-            return Err(ErrorKind::WriteZero.into());
-        }
-        done += count;
-    }
-    Ok(())
-}
-
-/// Syncs a file, where it is there, and the folder, so that the file's name or its absence lasts
-/// too. A missing folder is made first.
-pub fn sync_file<R: Files>(rt: &R, folder: &str, path: &str) -> io::Result<()> {
-    make_folder(rt, folder)?;
-    match File::open(rt, path) {
-        Ok(file) => file.sync_all()?,
-        Err(error) if error.kind() == ErrorKind::NotFound => {}
-        Err(error) => return Err(error),
-    }
-    sync_folder(rt, folder)
-}
-
-/// Removes a file; one that is absent may be removed.
-pub fn remove_file<R: Files>(rt: &R, path: &str) -> io::Result<()> {
-    match fs::remove_file(rt, path) {
-        Ok(()) => Ok(()),
-        Err(error) if error.kind() == ErrorKind::NotFound => Ok(()),
-        Err(error) => Err(error),
-    }
-}
-
-/// The numbers of the files of a folder. Other names are ignored; a missing folder has none.
-pub fn numbers_in<R: Files>(rt: &R, alloc: Global, folder: &str) -> io::Result<BTreeSet<u64>> {
-    let mut numbers = BTreeSet::new(alloc);
-    let entries = match fs::read_dir(&(rt, alloc), folder) {
-        Ok(entries) => entries,
-        Err(error) if error.kind() == ErrorKind::NotFound => return Ok(numbers),
-        Err(error) => return Err(error),
+    let start = match after {
+        Some(number) => Bound::Excluded(number),
+        None => Bound::Unbounded,
     };
-    for entry in entries {
-        if let Some(number) = number_of(entry?.file_name()) {
-            numbers.insert(number)?;
-        }
+    match numbers.range((start, Bound::Unbounded)).next() {
+        Some(number) => Some(*number),
+        None => None,
     }
-    Ok(numbers)
 }

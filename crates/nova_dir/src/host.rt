@@ -1,102 +1,45 @@
 //! A folder and standard output as a host.
-ghost use Rattle.std.specs.Prelude.{◌≡◌, ◌≤◌, [], false, length, Ok, IfOk, IfSome};
+ghost use Rattle.std.specs.Prelude.{◌≡◌, [], false, Ok, IfOk};
 ghost use Rattle.nova_outside.specs.Causes.{HasCause};
-ghost use Rattle.nova_outside.specs.Disk.{IsAfter};
 
-use crate::folder::{
-    create_file, numbers_in, path_of, read_file, remove_file, size_of, sync_file, write_file,
-    write_whole,
-};
+use crate::files::write_whole;
+use crate::folder::Folder;
 use crate::raise;
 use nova_outside::{Failed, Host};
 use std::alloc::AllocGlobal;
-use std::collections::BTreeSet;
+use std::fs::File;
 use std::io;
 use std::io::{Print, Write};
-use std::ops::Bound;
 use std::rt::Files;
 
 /// The files of a folder, of which file n is named n in decimal, and standard output for the
-/// replies. It tells nothing of contents. While it is used nobody else changes the folder: it
-/// keeps the list of the files from one `next_file` to the next.
+/// replies. It tells nothing of contents. It takes the folder's lock at the first call that finds
+/// the folder, and keeps it until it is dropped; a call that can't have it fails.
 #[derive(Drop)]
-pub struct DirHost<'a, R: Files + Print + AllocGlobal> {
+pub struct DirHost<'a, R: Files<File = File> + Print + AllocGlobal> {
     rt: &'a R,
-    folder: &'a str,
-    listing: Option<BTreeSet<u64>>,
+    folder: Folder<'a, R>,
     disk_faults: u64,
     reply_faults: u64,
     read_count: u64,
 }
 
-impl<'a, R: Files + Print + AllocGlobal> DirHost<'a, R> {
+impl<'a, R: Files<File = File> + Print + AllocGlobal> DirHost<'a, R> {
     /// A host over this folder, which is made once a file in it is made or synced; the folder that it
     /// stands in has to be there.
     pub fn new(rt: &'a R, folder: &'a str) -> DirHost<'a, R>
-        ensures folder { result.folder.now ≡ folder.now }
+        ensures folder { result.folder.path.now ≡ folder.now }
         ensures disk_faults { result.disk_faults ≡ 0 }
         ensures reply_faults { result.reply_faults ≡ 0 }
         ensures bytes_read { result.read_count ≡ 0 }
     {
         DirHost {
             rt,
-            folder,
-            listing: None,
+            folder: Folder::new(rt, folder),
             disk_faults: 0,
             reply_faults: 0,
             read_count: 0,
         }
-    }
-
-    fn try_size(&self, file: u64) -> io::Result<Option<u64>> {
-        size_of(self.rt, &path_of(self.rt.alloc(), self.folder, file)?)
-    }
-
-    fn try_read(&self, file: u64, at: u64, into: &mut [u8]) -> io::Result<usize>
-        ensures { IfOk result (λ n. n ≤ length into.old) }
-    {
-        let path = path_of(self.rt.alloc(), self.folder, file)?;
-        read_file(self.rt, &path, at, into)
-    }
-
-    fn try_create(&self, file: u64) -> io::Result<()> {
-        let path = path_of(self.rt.alloc(), self.folder, file)?;
-        create_file(self.rt, self.folder, &path)
-    }
-
-    fn try_write(&self, file: u64, at: u64, bytes: &[u8]) -> io::Result<()> {
-        let path = path_of(self.rt.alloc(), self.folder, file)?;
-        write_file(self.rt, &path, at, bytes)
-    }
-
-    fn try_sync(&self, file: u64) -> io::Result<()> {
-        let path = path_of(self.rt.alloc(), self.folder, file)?;
-        sync_file(self.rt, self.folder, &path)
-    }
-
-    fn try_remove(&self, file: u64) -> io::Result<()> {
-        remove_file(self.rt, &path_of(self.rt.alloc(), self.folder, file)?)
-    }
-
-    // The next file of the listing, which is made anew at the first one.
-    fn try_next(&mut self, after: Option<u64>) -> io::Result<Option<u64>>
-        ensures above { IfOk result (λ found. IfSome found (IsAfter after)) }
-        ensures disk_faults { self.new.disk_faults ≡ self.old.disk_faults }
-        ensures reply_faults { self.new.reply_faults ≡ self.old.reply_faults }
-        ensures bytes_read { self.new.read_count ≡ self.old.read_count }
-    {
-        let kept = if after.is_some() {
-            self.listing.take()
-        } else {
-            None
-        };
-        let numbers = match kept {
-            Some(numbers) => numbers,
-            None => numbers_in(self.rt, self.rt.alloc(), self.folder)?,
-        };
-        let found = next_of(&numbers, after);
-        self.listing = Some(numbers);
-        Ok(found)
     }
 
     // Raises the count where a call on a file failed.
@@ -116,21 +59,7 @@ impl<'a, R: Files + Print + AllocGlobal> DirHost<'a, R> {
     }
 }
 
-// The least of the numbers above this one.
-fn next_of(numbers: &BTreeSet<u64>, after: Option<u64>) -> Option<u64>
-    ensures { IfSome result (IsAfter after) }
-{
-    let start = match after {
-        Some(number) => Bound::Excluded(number),
-        None => Bound::Unbounded,
-    };
-    match numbers.range((start, Bound::Unbounded)).next() {
-        Some(number) => Some(*number),
-        None => None,
-    }
-}
-
-impl<R: Files + Print + AllocGlobal> Host for DirHost<'_, R> {
+impl<R: Files<File = File> + Print + AllocGlobal> Host for DirHost<'_, R> {
     ghost is_honest = { false };
 
     ghost history = { λ _. [] };
@@ -144,43 +73,39 @@ impl<R: Files + Print + AllocGlobal> Host for DirHost<'_, R> {
     ghost valid = { λ _. tt };
 
     fn size(&mut self, file: u64) -> Result<Option<u64>, Failed> {
-        let answer = self.try_size(file);
+        let answer = self.folder.size(file);
         self.counted(answer)
     }
 
     fn read(&mut self, file: u64, at: u64, into: &mut [u8]) -> Result<usize, Failed> {
-        let answer = self.try_read(file, at, into);
+        let answer = self.folder.read(file, at, into);
         let count = self.counted(answer)?;
         self.read_count = self.read_count.saturating_add(count as u64);
         Ok(count)
     }
 
     fn create(&mut self, file: u64) -> Result<(), Failed> {
-        self.listing = None;
-        let answer = self.try_create(file);
+        let answer = self.folder.create(file);
         self.counted(answer)
     }
 
     fn write(&mut self, file: u64, at: u64, bytes: &[u8]) -> Result<(), Failed> {
-        let answer = self.try_write(file, at, bytes);
+        let answer = self.folder.write(file, at, bytes);
         self.counted(answer)
     }
 
     fn sync(&mut self, file: u64) -> Result<(), Failed> {
-        let answer = self.try_sync(file);
+        let answer = self.folder.sync(file);
         self.counted(answer)
     }
 
     fn remove(&mut self, file: u64) -> Result<(), Failed> {
-        if let Some(numbers) = &mut self.listing {
-            let _ = numbers.remove(&file);
-        }
-        let answer = self.try_remove(file);
+        let answer = self.folder.remove(file);
         self.counted(answer)
     }
 
     fn next_file(&mut self, after: Option<u64>) -> Result<Option<u64>, Failed> {
-        let answer = self.try_next(after);
+        let answer = self.folder.next_file(after);
         self.counted(answer)
     }
 

@@ -2,6 +2,7 @@
 //! tell nothing of contents; every error of the system raises a count.
 #![tactic(auto)]
 
+mod files;
 mod folder;
 mod host;
 mod source;

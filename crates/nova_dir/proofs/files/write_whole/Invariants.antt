@@ -1,8 +1,8 @@
 use Rattle.std.proofs.Common.{◌-◌, ◌≤◌, length}
-use Rattle.nova_dir.proofs.folder.read_file.Given as goal
+use Rattle.nova_dir.proofs.files.write_whole.Given as goal
 
 abbrev pub invariant-loop-done : goal.invariant-loop-done
-invariant-loop-done g l = l.done ≤ length l.into
+invariant-loop-done g l = l.done ≤ length l.bytes
 
 abbrev pub decreases-loop-done : goal.decreases-loop-done
-decreases-loop-done g l = length l.initial.into - l.done
+decreases-loop-done g l = length l.bytes - l.done

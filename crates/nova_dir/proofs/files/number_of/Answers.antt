@@ -2,7 +2,7 @@ use Rattle.std.proofs.Common.{refl, sym, subst}
 use Rattle.std.proofs.lemmas.Fmt.{parse-decimal}
 use Rattle.nova_dir.specs.Names.{IsPlain}
 use Rattle.nova_dir.proofs.Names.{read_back, digits_plain}
-use Rattle.nova_dir.proofs.folder.number_of.Goals as goal
+use Rattle.nova_dir.proofs.files.number_of.Goals as goal
 
 pub returns-then-not-is_plain-clause-all : goal.returns-then-not-is_plain-clause-all
 returns-then-not-is_plain-clause-all c = λ n fits is.

@@ -13,6 +13,8 @@ mod progress;
 mod running;
 mod shelf;
 mod spans;
+#[cfg(test)]
+mod tests;
 mod wiring;
 
 pub use captured::{Captured, Versions};

@@ -11,15 +11,15 @@ use Rattle.nova_pig_tree.specs.declared.token.Token.TheVariants.{Ident, Word, Sy
 use Rattle.nova_pig_tree.specs.declared.token.Symbol.TheVariants as s
 use Rattle.nova_pig_tree.specs.declared.token.Word.TheVariants as w
 use Rattle.nova_value.specs.declared.value.Kind.{Kind}
-use Rattle.nova_pig_expr.specs.declared.operators.Level.{Level}
-use Rattle.nova_pig_expr.specs.declared.operators.Level.TheVariants as l
-use Rattle.nova_pig_expr.specs.declared.operators.BinaryOp.{BinaryOp}
-use Rattle.nova_pig_expr.specs.Operators.{operator}
-use Rattle.nova_pig_expr.specs.Grammar as g
-use Rattle.nova_pig_expr.specs.Grammar.{Part, Derives, IsField}
-use Rattle.nova_pig_statement.specs.Statement.{is_semicolon}
-use Rattle.nova_pig_statement.specs.Statement as st
-use Rattle.nova_pig_statement.specs.Statement.{Tail, Listed, IsLabel, IsItem, IsColumns, IsName, IsOp}
+use Rattle.nova_pig_grammar.specs.declared.operators.Level.{Level}
+use Rattle.nova_pig_grammar.specs.declared.operators.Level.TheVariants as l
+use Rattle.nova_pig_grammar.specs.declared.operators.BinaryOp.{BinaryOp}
+use Rattle.nova_pig_grammar.specs.Operators.{operator}
+use Rattle.nova_pig_grammar.specs.Expression as g
+use Rattle.nova_pig_grammar.specs.Expression.{Part, Derives, IsField}
+use Rattle.nova_pig_grammar.specs.Statement.{is_semicolon}
+use Rattle.nova_pig_grammar.specs.Statement as st
+use Rattle.nova_pig_grammar.specs.Statement.{Tail, Listed, IsLabel, IsItem, IsColumns, IsName, IsOp}
 
 abbrev pub clear : List Token → Bool
 clear = list_all (λ t. not (is_semicolon t))

@@ -9,14 +9,14 @@ use Rattle.nova_pig_tree.specs.declared.token.Token.{Token}
 use Rattle.nova_pig_tree.specs.declared.token.Token.TheVariants.{Ident, Word, Number, Literal, Symbol}
 use Rattle.nova_pig_tree.specs.declared.token.Word.TheVariants as w
 use Rattle.nova_pig_tree.specs.declared.token.Symbol.TheVariants as s
-use Rattle.nova_pig_expr.specs.declared.operators.Level.{Level}
-use Rattle.nova_pig_expr.specs.declared.operators.Level.TheVariants as l
-use Rattle.nova_pig_expr.specs.declared.operators.BinaryOp.{BinaryOp}
-use Rattle.nova_pig_expr.specs.Operators.{operator, combine, call_kind, group_word}
-use Rattle.nova_pig_expr.specs.Grammar as g
-use Rattle.nova_pig_expr.specs.Grammar.{Part, Left, Neg, Comp, Unary, Primary, operand, whole, Derives, IsField}
-use Rattle.nova_pig_expr.specs.Reading.{Reader, and_then, At, After, after_by, neg, compared, unary, closed, third, opened, field_after, group_after, field_at, refer, named_by, primary, step, rank, read}
-use Rattle.nova_pig_expr.proofs.Steps.{read-step}
+use Rattle.nova_pig_grammar.specs.declared.operators.Level.{Level}
+use Rattle.nova_pig_grammar.specs.declared.operators.Level.TheVariants as l
+use Rattle.nova_pig_grammar.specs.declared.operators.BinaryOp.{BinaryOp}
+use Rattle.nova_pig_grammar.specs.Operators.{operator, combine, call_kind, group_word}
+use Rattle.nova_pig_grammar.specs.Expression as g
+use Rattle.nova_pig_grammar.specs.Expression.{Part, Left, Neg, Comp, Unary, Primary, operand, whole, Derives, IsField}
+use Rattle.nova_pig_grammar.specs.ExpressionReading.{Reader, and_then, At, After, after_by, neg, compared, unary, closed, third, opened, field_after, group_after, field_at, refer, named_by, primary, step, rank, read}
+use Rattle.nova_pig_grammar.proofs.Steps.{operand-lower, read-step, same_value}
 
 -- how loose a part must be for the token to go on with it, or 9 where it goes on with none
 abbrev pub loosest : Token → ℕ
@@ -49,12 +49,6 @@ Begins p (t ∷ ts) = needs t ≤ rank (At p)
 stops-looser : (p q : Part) (ts : List Token) → rank (At p) ≤ rank (At q) → Stops q ts → Stops p ts
 stops-looser p q [] le h = tt
 stops-looser p q (t ∷ ts) le h = omega arith
-
-operand-lower : (l : Level) → rank (At (operand l)) < rank (At (Left l))
-operand-lower l.Or = omega arith
-operand-lower l.And = omega arith
-operand-lower l.Sum = omega arith
-operand-lower l.Prod = omega arith
 
 operator-loosest : (l : Level) (t : Token) (op : BinaryOp) → operator l t ≡ Some op → loosest t ≡ rank (At (Left l))
 operator-loosest l.Or (Word w.Or) op eq = refl
@@ -241,16 +235,9 @@ goes (g.choose {ts = ts} {us = us} {vs = vs} {x = x} {y = y} {z = z} d d' d'') =
 pub read-complete : {p : Part} {ts : List Token} {x : Expr} → Derives p ts x → (rest : List Token) → Stops p rest → read (At p) (ts ++ rest) ≡ Some (x, rest)
 read-complete {p} {ts} {x} d rest h = finished p ts x (goes d) rest h
 
-append_nil : (ts : List Token) → ts ++ [] ≡ ts
-append_nil [] = refl
-append_nil (t ∷ ts) = ap (λ us. t ∷ us) (append_nil ts)
-
-same_pair : {A : Type 0} {p q : A} → Some p ≡ Some q → p ≡ q
-same_pair e = cc
-
 -- tokens have one reading
 pub one_reading : {p : Part} {ts : List Token} {x y : Expr} → Derives p ts x → Derives p ts y → x ≡ y
 one_reading {p} {ts} {x} {y} d d' =
     let a : read (At p) (ts ++ []) ≡ Some (x, []) = read-complete d [] tt in
     let b : read (At p) (ts ++ []) ≡ Some (y, []) = read-complete d' [] tt in
-    ap (λ q. q.0) (same_pair (sym a ∙ b))
+    same_value (sym a ∙ b)

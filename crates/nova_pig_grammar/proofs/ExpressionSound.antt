@@ -1,5 +1,6 @@
 -- What is read is derived by the grammar.
 use Rattle.std.proofs.Common.{◌≡◌, true, ℕ, zero, suc, List, [], ◌∷◌, ◌++◌, Option, Some, None, refl, ap, sym, subst, ◌∙◌, append_assoc}
+use Rattle.std.proofs.lemmas.List.{append-nil}
 use Rattle.nova_pig_tree.specs.declared.expression.CallKind.{CallKind}
 use Rattle.nova_pig_tree.specs.declared.expression.Field.{Field}
 use Rattle.nova_pig_tree.specs.declared.expression.CompareOp.{CompareOp}
@@ -9,19 +10,19 @@ use Rattle.nova_pig_tree.specs.declared.token.Token.{Token}
 use Rattle.nova_pig_tree.specs.declared.token.Token.TheVariants.{Ident, Word, Group, Number, Position, Literal, Symbol}
 use Rattle.nova_pig_tree.specs.declared.token.Word.TheVariants as w
 use Rattle.nova_pig_tree.specs.declared.token.Symbol.TheVariants as s
-use Rattle.nova_pig_expr.specs.declared.operators.Level.{Level}
-use Rattle.nova_pig_expr.specs.declared.operators.Level.TheVariants as l
-use Rattle.nova_pig_expr.specs.declared.operators.BinaryOp.{BinaryOp}
-use Rattle.nova_pig_expr.specs.Operators.{operator, comparison, combine, call_kind}
-use Rattle.nova_pig_expr.specs.Grammar as g
-use Rattle.nova_pig_expr.specs.Grammar.{Part, Left, Neg, Comp, Unary, Primary, operand, whole, Derives, IsField}
-use Rattle.nova_pig_expr.specs.Reading.{Reading, Reader, and_then, Goal, At, After, left, after_by, after, neg, compared_by, compared, comp, unary, closed, third, branches, opened, field_after, group_after, field_at, refer, call_field, call_after, named_by, primary, step, read_by, fuel, read}
-use Rattle.nova_pig_expr.proofs.Steps.{bound, same_value, same_rest}
+use Rattle.nova_pig_grammar.specs.declared.operators.Level.{Level}
+use Rattle.nova_pig_grammar.specs.declared.operators.Level.TheVariants as l
+use Rattle.nova_pig_grammar.specs.declared.operators.BinaryOp.{BinaryOp}
+use Rattle.nova_pig_grammar.specs.Operators.{operator, comparison, combine, call_kind}
+use Rattle.nova_pig_grammar.specs.Expression as g
+use Rattle.nova_pig_grammar.specs.Expression.{Part, Left, Neg, Comp, Unary, Primary, operand, whole, Derives, IsField}
+use Rattle.nova_pig_grammar.specs.ExpressionReading.{Reading, Reader, and_then, Goal, At, After, left, after_by, after, neg, compared_by, compared, comp, unary, closed, third, branches, opened, field_after, group_after, field_at, refer, call_field, call_after, named_by, primary, step, read_by, fuel, read}
+use Rattle.nova_pig_grammar.proofs.Steps.{bound, same_value, same_rest}
 
 -- the tokens that were read derive the tree, and those of a goal after operands go on with them
 abbrev pub Reads : Goal → List Token → Expr → List Token → Type 0
-Reads (At p) ts x rest = (front : List Token) × (ts ≡ front ++ rest) × Derives p front x
-Reads (After l a) ts x rest = (front : List Token) × (ts ≡ front ++ rest) × ((before : List Token) → Derives (Left l) before a → Derives (Left l) (before ++ front) x)
+Reads (At p) ts x rest = (prefix : List Token) × (ts ≡ prefix ++ rest) × Derives p prefix x
+Reads (After l a) ts x rest = (prefix : List Token) × (ts ≡ prefix ++ rest) × ((before : List Token) → Derives (Left l) before a → Derives (Left l) (before ++ prefix) x)
 
 abbrev pub Sound : (Goal → Reader Expr) → Type 0
 Sound p = (g : Goal) (ts : List Token) (x : Expr) (rest : List Token) → p g ts ≡ Some (x, rest) → Reads g ts x rest
@@ -30,16 +31,12 @@ derives-along : {p : Part} {x y : Expr} (ts : List Token) → Derives p ts x →
 derives-along {p} ts d eq = subst (λ z. Derives p ts z) eq d
 
 -- the tokens of two parts
-joined : (a b rest : List Token) {ts mid : List Token} → ts ≡ a ++ mid → mid ≡ b ++ rest → ts ≡ (a ++ b) ++ rest
+pub joined : (a b rest : List Token) {ts mid : List Token} → ts ≡ a ++ mid → mid ≡ b ++ rest → ts ≡ (a ++ b) ++ rest
 joined a b rest first then = first ∙ ap (λ m. a ++ m) then ∙ sym (append_assoc a b rest)
 
 -- nothing more was read
 ended : (l : Level) (x y : Expr) (ts rest : List Token) → ◌≡◌ {A = Reading Expr} (Some (x, ts)) (Some (y, rest)) → Reads (After l x) ts y rest
-ended l x y ts rest eq = ([], same_rest eq, λ before d. derives-along (before ++ []) (subst (λ ts. Derives (Left l) ts x) (sym (append_nil before)) d) (same_value eq))
-  where
-    append_nil : (ts : List Token) → ts ++ [] ≡ ts
-    append_nil [] = refl
-    append_nil (t ∷ ts) = ap (λ us. t ∷ us) (append_nil ts)
+ended l x y ts rest eq = ([], same_rest eq, λ before d. derives-along (before ++ []) (subst (λ ts. Derives (Left l) ts x) (sym (append-nil before)) d) (same_value eq))
 
 comparison-is : (t : Token) {op : CompareOp} → comparison t ≡ Some op → t ≡ Symbol (s.Compare op)
 comparison-is (Symbol (s.Compare op)) eq = cc
@@ -49,9 +46,9 @@ comparison-is _ eq = absurd cc
 choice : List Token → List Token → List Token
 choice b c = Symbol s.Question ∷ b ++ Symbol s.Colon ∷ c ++ Symbol s.Close ∷ []
 
-choice-front : (b c rest : List Token) {ts mid : List Token} → ts ≡ b ++ mid → mid ≡ Symbol s.Colon ∷ c ++ Symbol s.Close ∷ rest → Symbol s.Question ∷ ts ≡ choice b c ++ rest
+choice-prefix : (b c rest : List Token) {ts mid : List Token} → ts ≡ b ++ mid → mid ≡ Symbol s.Colon ∷ c ++ Symbol s.Close ∷ rest → Symbol s.Question ∷ ts ≡ choice b c ++ rest
 unfolding choice
-choice-front b c rest first then = rw first (rw then (simp append_assoc))
+choice-prefix b c rest first then = rw first (rw then (simp append_assoc))
 
 choice-derives : {a b c : List Token} {x y z : Expr} → Derives whole a x → Derives whole b y → Derives whole c z → Derives Primary (Symbol s.Open ∷ a ++ choice b c) (e.If x y z)
 unfolding choice
@@ -62,7 +59,7 @@ choice-derives {a} {b} {c} {x} {y} {z} d d' d'' =
 
 -- the tokens of a field, the first of which was read before
 abbrev Fielded : Token → List Token → Field → List Token → Type 0
-Fielded t ts x rest = (front : List Token) × (ts ≡ front ++ rest) × IsField (t ∷ front) x
+Fielded t ts x rest = (prefix : List Token) × (ts ≡ prefix ++ rest) × IsField (t ∷ prefix) x
 
 field-along : {x y : Field} (ts : List Token) → IsField ts x → x ≡ y → IsField ts y
 field-along ts d eq = subst (λ z. IsField ts z) eq d
@@ -82,7 +79,7 @@ group_after-sound (Symbol s.ColonColon ∷ Ident b ∷ ts) x rest eq =
 group_after-sound (Symbol s.ColonColon ∷ ts) x rest eq = absurd cc
 group_after-sound ts x rest eq = ([], same_rest eq, field-along (Group true ∷ []) g.group (same_value eq))
 
-pub field_at-sound : (ts : List Token) (x : Field) (rest : List Token) → field_at ts ≡ Some (x, rest) → (front : List Token) × (ts ≡ front ++ rest) × IsField front x
+pub field_at-sound : (ts : List Token) (x : Field) (rest : List Token) → field_at ts ≡ Some (x, rest) → (prefix : List Token) × (ts ≡ prefix ++ rest) × IsField prefix x
 field_at-sound (Ident a ∷ ts) x rest eq = let (b, is, d) = field_after-sound a ts x rest eq in (Ident a ∷ b, ap (λ us. Ident a ∷ us) is, d)
 field_at-sound (Group true ∷ ts) x rest eq = let (b, is, d) = group_after-sound ts x rest eq in (Group true ∷ b, ap (λ us. Group true ∷ us) is, d)
 field_at-sound (Position n ∷ ts) x rest eq = (Position n ∷ [], ap (λ us. Position n ∷ us) (same_rest eq), field-along (Position n ∷ []) g.position (same_value eq))
@@ -95,9 +92,9 @@ refer-sound t r ts sound x rest eq =
     let (b, is, d) = sound y mid first in
     (t ∷ b, ap (λ us. t ∷ us) (is ∙ ap (λ r. b ++ r) (same_rest then)), derives-along (t ∷ b) (g.field d) (same_value then))
 
-shut-sound : (x : Expr) (ts : List Token) (y : Expr) (rest : List Token) → closed x ts ≡ Some (y, rest) → (ts ≡ Symbol s.Close ∷ rest) × (x ≡ y)
-shut-sound x (Symbol s.Close ∷ ts) y rest eq = (ap (λ us. Symbol s.Close ∷ us) (same_rest eq), same_value eq)
-shut-sound x _ y rest eq = absurd cc
+pub closed-sound : {A : Type 0} (x : A) (ts : List Token) (y : A) (rest : List Token) → closed x ts ≡ Some (y, rest) → (ts ≡ Symbol s.Close ∷ rest) × (x ≡ y)
+closed-sound x (Symbol s.Close ∷ ts) y rest eq = (ap (λ us. Symbol s.Close ∷ us) (same_rest eq), same_value eq)
+closed-sound x _ y rest eq = absurd cc
 
 call_of-sound : (k : CallKind) (n a : List ℕ) → call_kind n ≡ Some k → (ts : List Token) (x : Expr) (rest : List Token)
     → and_then (call_field ts) (λ o. closed (e.Call k a o)) ≡ Some (x, rest)
@@ -106,7 +103,7 @@ call_of-sound k n a is (Symbol s.Dot ∷ ts) x rest eq =
     let (o, mid, first, then) = bound (call_field (Symbol s.Dot ∷ ts)) (λ o. closed (e.Call k a o)) eq in
     let (y, mid2, second, last) = bound (field_at ts) (λ a us. Some (Some a, us)) first in
     let (b, b-is, d) = field_at-sound ts y mid2 second in
-    let (end-is, x-is) = shut-sound (e.Call k a o) mid x rest then in
+    let (end-is, x-is) = closed-sound (e.Call k a o) mid x rest then in
     let made : Derives Primary (Ident n ∷ Symbol s.Open ∷ Ident a ∷ Symbol s.Dot ∷ b ++ Symbol s.Close ∷ []) (e.Call k a (Some y)) = g.call_of k is d in
     let all : ts ≡ b ++ Symbol s.Close ∷ rest = b-is ∙ ap (λ r. b ++ r) (same_rest last ∙ end-is) in (
       Symbol s.Dot ∷ b ++ Symbol s.Close ∷ [],
@@ -169,11 +166,7 @@ module _ (p : Goal → Reader Expr) (sound : Sound p) where
   compared_by-sound : (a : List Token) (x : Expr) → Derives (Left l.Sum) a x → (t : Token) (ts : List Token) (o : Option CompareOp) (y : Expr) (rest : List Token)
       → comparison t ≡ o → compared_by p x t ts o ≡ Some (y, rest) → (b : List Token) × (t ∷ ts ≡ b ++ rest) × Derives Comp (a ++ b) y
   compared_by-sound a x d t ts None y rest op-is eq =
-      ([], same_rest eq, derives-along (a ++ []) (subst (λ us. Derives Comp us x) (sym (append_nil a)) (g.alone d)) (same_value eq))
-    where
-      append_nil : (ts : List Token) → ts ++ [] ≡ ts
-      append_nil [] = refl
-      append_nil (t ∷ ts) = ap (λ us. t ∷ us) (append_nil ts)
+      ([], same_rest eq, derives-along (a ++ []) (subst (λ us. Derives Comp us x) (sym (append-nil a)) (g.alone d)) (same_value eq))
   compared_by-sound a x d t ts (Some op) y rest op-is eq =
       let (z, mid, first, then) = bound (p (At (Left l.Sum)) ts) (λ y us. Some (e.Compare op x y, us)) eq in
       let (b, b-is, d') = sound (At (Left l.Sum)) ts z mid first in
@@ -193,10 +186,6 @@ module _ (p : Goal → Reader Expr) (sound : Sound p) where
           let (b, b-is, more) = ended l.Sum x y [] rest eq in (b, b-is, g.alone (more a d))
       compared-sound a x d (t ∷ ts) y rest eq = compared_by-sound a x d t ts (comparison t) y rest refl eq
 
-  closed-sound : (x : Expr) (ts : List Token) (y : Expr) (rest : List Token) → closed x ts ≡ Some (y, rest) → (ts ≡ Symbol s.Close ∷ rest) × (x ≡ y)
-  closed-sound x (Symbol s.Close ∷ ts) y rest eq = (ap (λ us. Symbol s.Close ∷ us) (same_rest eq), same_value eq)
-  closed-sound x _ y rest eq = absurd cc
-
   third-sound : (ts : List Token) (v : Expr) (rest : List Token) → third p ts ≡ Some (v, rest)
       → (a : List Token) × (ts ≡ Symbol s.Colon ∷ a ++ Symbol s.Close ∷ rest) × Derives whole a v
   third-sound (Symbol s.Colon ∷ ts) v rest eq =
@@ -214,7 +203,7 @@ module _ (p : Goal → Reader Expr) (sound : Sound p) where
       let (b, b-is, d) = sound (At whole) ts y mid first in
       let (c, c-is, d') = third-sound mid z end second in
       let c-at : mid ≡ Symbol s.Colon ∷ c ++ Symbol s.Close ∷ rest = c-is ∙ ap (λ r. Symbol s.Colon ∷ c ++ Symbol s.Close ∷ r) (same_rest last) in
-      (b, c, choice-front b c rest b-is c-at, y, z, d, d', ap (λ v. e.If x v.0 v.1) (same_value last))
+      (b, c, choice-prefix b c rest b-is c-at, y, z, d, d', ap (λ v. e.If x v.0 v.1) (same_value last))
 
   opened-sound : (a : List Token) (x : Expr) → Derives whole a x → (ts : List Token) (v : Expr) (rest : List Token) → opened p x ts ≡ Some (v, rest)
       → (b : List Token) × (ts ≡ b ++ rest) × Derives Primary (Symbol s.Open ∷ a ++ b) v

@@ -1,22 +1,20 @@
 -- Lists with commas are read exactly.
-use Rattle.std.proofs.Common.{◌≡◌, ℕ, zero, suc, false, List, [], ◌∷◌, ◌++◌, length, Some, ap, sym, subst, ◌∙◌, append_assoc}
+use Rattle.std.proofs.Common.{◌≡◌, ℕ, zero, suc, false, List, [], ◌∷◌, ◌++◌, length, Some, ap, subst, ◌∙◌, append_assoc}
 use Rattle.nova_pig_tree.specs.declared.token.Token.{Token}
 use Rattle.nova_pig_tree.specs.declared.token.Token.TheVariants.{Symbol}
 use Rattle.nova_pig_tree.specs.declared.token.Symbol.TheVariants as s
-use Rattle.nova_pig_expr.specs.Reading.{Reader, and_then}
-use Rattle.nova_pig_expr.proofs.Steps.{bound, same_rest, same_value}
-use Rattle.nova_pig_statement.specs.Reads.{more_by, more, listed, begins_comma}
-use Rattle.nova_pig_statement.specs.Statement.{Tail, none, next, Listed, begin}
-use Rattle.nova_pig_statement.proofs.Lists.{NoLonger, more-comma, more-stop}
+use Rattle.nova_pig_grammar.specs.ExpressionReading.{Reader, and_then}
+use Rattle.nova_pig_grammar.proofs.Steps.{bound, same_rest, same_value}
+use Rattle.nova_pig_grammar.proofs.ExpressionSound.{joined}
+use Rattle.nova_pig_grammar.specs.StatementReading.{more_by, more, listed, begins_comma}
+use Rattle.nova_pig_grammar.specs.Statement.{Tail, none, next, Listed, begin}
+use Rattle.nova_pig_grammar.proofs.Lists.{NoLonger, more-comma, more-stop}
 
 abbrev pub Sound : {A : Type 0} → Reader A → (List Token → A → Type 0) → Type 0
-Sound {A} r R = (ts : List Token) (x : A) (rest : List Token) → r ts ≡ Some (x, rest) → (front : List Token) × (ts ≡ front ++ rest) × R front x
+Sound {A} r R = (ts : List Token) (x : A) (rest : List Token) → r ts ≡ Some (x, rest) → (prefix : List Token) × (ts ≡ prefix ++ rest) × R prefix x
 
 abbrev pub Complete : {A : Type 0} → Reader A → (List Token → A → Type 0) → (List Token → Type 0) → Type 0
 Complete {A} r R Stop = (ts : List Token) (x : A) → R ts x → (rest : List Token) → Stop rest → r (ts ++ rest) ≡ Some (x, rest)
-
-pub joined : (a b rest : List Token) {ts mid : List Token} → ts ≡ a ++ mid → mid ≡ b ++ rest → ts ≡ (a ++ b) ++ rest
-joined a b rest first then = first ∙ ap (λ m. a ++ m) then ∙ sym (append_assoc a b rest)
 
 module _ {A : Type 0} (one : Reader A) (One : List Token → A → Type 0) (sound : Sound one One) where
   tail-sound : (n : ℕ) → Sound (more_by one n) (Tail One)

@@ -5,12 +5,12 @@ use Rattle.nova_pig_tree.specs.declared.token.Token.{Token}
 use Rattle.nova_pig_tree.specs.declared.token.Token.TheVariants.{Word, Symbol}
 use Rattle.nova_pig_tree.specs.declared.token.Word.TheVariants as w
 use Rattle.nova_pig_tree.specs.declared.token.Symbol.TheVariants as s
-use Rattle.nova_pig_expr.specs.declared.operators.Level.{Level}
-use Rattle.nova_pig_expr.specs.declared.operators.BinaryOp.{BinaryOp}
-use Rattle.nova_pig_expr.specs.Operators.{operator, comparison, is_not, is_minus, is_open}
-use Rattle.nova_pig_expr.specs.Grammar.{Left, Neg, Comp, Unary, Primary}
-use Rattle.nova_pig_expr.specs.Reading.{At, After, left, comp, after_by, compared_by, step, read, Next, NextNot, NextMinus, NextComparison, NextOpen}
-use Rattle.nova_pig_expr.proofs.Steps.{read-step}
+use Rattle.nova_pig_grammar.specs.declared.operators.Level.{Level}
+use Rattle.nova_pig_grammar.specs.declared.operators.BinaryOp.{BinaryOp}
+use Rattle.nova_pig_grammar.specs.Operators.{operator, comparison, is_not, is_minus, is_open}
+use Rattle.nova_pig_grammar.specs.Expression.{Left, Neg, Comp, Unary, Primary}
+use Rattle.nova_pig_grammar.specs.ExpressionReading.{At, After, left, comp, after_by, compared_by, step, read, Next, NextNot, NextMinus, NextComparison, NextOpen}
+use Rattle.nova_pig_grammar.proofs.Steps.{read-step}
 
 pub next-none : (l : Level) → Next l None [] []
 unfolding step

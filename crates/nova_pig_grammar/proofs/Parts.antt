@@ -10,18 +10,18 @@ use Rattle.nova_pig_tree.specs.declared.token.Token.{Token}
 use Rattle.nova_pig_tree.specs.declared.token.Token.TheVariants.{Ident, Word, Group, Symbol}
 use Rattle.nova_pig_tree.specs.declared.token.Word.TheVariants as w
 use Rattle.nova_pig_tree.specs.declared.token.Symbol.TheVariants as s
-use Rattle.nova_pig_expr.specs.Grammar as g
-use Rattle.nova_pig_expr.specs.Grammar.{Part, Derives, IsField, whole}
-use Rattle.nova_pig_expr.specs.Reading.{and_then, read, At}
-use Rattle.nova_pig_expr.proofs.Steps.{bound, same_rest, same_value}
-use Rattle.nova_pig_expr.proofs.Sound.{read-sound}
-use Rattle.nova_pig_expr.proofs.Complete.{read-complete, Stops}
-use Rattle.nova_pig_statement.specs.Statement.{kind_of}
-use Rattle.nova_pig_statement.specs.Reads.{listed, some_kind, kind_at, label_at, flatten_at, value_at, item_at, op_at}
-use Rattle.nova_pig_statement.specs.Statement as st
-use Rattle.nova_pig_statement.specs.Statement.{Listed, IsLabel, IsItem, IsColumns, IsName, IsOp, Ended}
-use Rattle.nova_pig_statement.proofs.Shrink.{item-no_longer}
-use Rattle.nova_pig_statement.proofs.Listing.{Sound, Complete, joined, listed-sound, listed-complete}
+use Rattle.nova_pig_grammar.specs.Expression as g
+use Rattle.nova_pig_grammar.specs.Expression.{Part, Derives, IsField, whole}
+use Rattle.nova_pig_grammar.specs.ExpressionReading.{and_then, read, At}
+use Rattle.nova_pig_grammar.proofs.Steps.{bound, same_rest, same_value}
+use Rattle.nova_pig_grammar.proofs.ExpressionSound.{read-sound, joined}
+use Rattle.nova_pig_grammar.proofs.ExpressionComplete.{read-complete, Stops}
+use Rattle.nova_pig_grammar.specs.Statement.{kind_of}
+use Rattle.nova_pig_grammar.specs.StatementReading.{listed, some_kind, kind_at, label_at, flatten_at, value_at, item_at, op_at}
+use Rattle.nova_pig_grammar.specs.Statement as st
+use Rattle.nova_pig_grammar.specs.Statement.{Listed, IsLabel, IsItem, Ended}
+use Rattle.nova_pig_grammar.proofs.Shrink.{item-no_longer}
+use Rattle.nova_pig_grammar.proofs.Listing.{Sound, Complete, listed-sound, listed-complete}
 
 -- an expression begins with no `*` and no FLATTEN
 abbrev starts : Token → Bool
@@ -118,11 +118,11 @@ filter-complete {a} d rest = ap (λ r. and_then r (λ x us. Some (op.Filter a x,
 
 -- what is read is an item
 kind-sound : (a : List ℕ) (ts : List Token) (k : Option Kind) (rest : List Token) → kind_at ts ≡ Some (k, rest)
-    → (front : List Token) × (ts ≡ front ++ rest) × IsLabel (Word w.As ∷ Ident a ∷ front) (Some a, k)
+    → (prefix : List Token) × (ts ≡ prefix ++ rest) × IsLabel (Word w.As ∷ Ident a ∷ prefix) (Some a, k)
 kind-sound a (Symbol s.Colon ∷ Ident n ∷ ts) k rest eq = by (kind_of n) refl eq
   where
     by : (o : Option Kind) → kind_of n ≡ o → some_kind o ts ≡ Some (k, rest)
-        → (front : List Token) × (Symbol s.Colon ∷ Ident n ∷ ts ≡ front ++ rest) × IsLabel (Word w.As ∷ Ident a ∷ front) (Some a, k)
+        → (prefix : List Token) × (Symbol s.Colon ∷ Ident n ∷ ts ≡ prefix ++ rest) × IsLabel (Word w.As ∷ Ident a ∷ prefix) (Some a, k)
     by (Some found) is eq = (
       Symbol s.Colon ∷ Ident n ∷ [],
       ap (λ us. Symbol s.Colon ∷ Ident n ∷ us) (same_rest eq),
@@ -148,7 +148,7 @@ value-sound ts x rest eq =
     let (h, h-is, d') = label-sound mid l end e2 in
     (f ++ h, joined f h rest f-is (h-is ∙ ap (λ r. h ++ r) (same_rest last)), subst (λ z. IsItem (f ++ h) z) (same_value last) (st.value d d'))
 
-flatten-sound : (ts : List Token) (x : Item) (rest : List Token) → flatten_at ts ≡ Some (x, rest) → (front : List Token) × (Word w.Flatten ∷ ts ≡ front ++ rest) × IsItem front x
+flatten-sound : (ts : List Token) (x : Item) (rest : List Token) → flatten_at ts ≡ Some (x, rest) → (prefix : List Token) × (Word w.Flatten ∷ ts ≡ prefix ++ rest) × IsItem prefix x
 flatten-sound (Symbol s.Open ∷ Group true ∷ Symbol s.Close ∷ ts) x rest eq = (
   Word w.Flatten ∷ Symbol s.Open ∷ Group true ∷ Symbol s.Close ∷ [],
   ap (λ us. Word w.Flatten ∷ Symbol s.Open ∷ Group true ∷ Symbol s.Close ∷ us) (same_rest eq),

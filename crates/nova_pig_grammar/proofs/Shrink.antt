@@ -5,12 +5,12 @@ use Rattle.nova_pig_tree.specs.declared.statement.Item.TheVariants as item
 use Rattle.nova_pig_tree.specs.declared.token.Token.TheVariants.{Ident, Word, Group, Symbol}
 use Rattle.nova_pig_tree.specs.declared.token.Word.TheVariants as w
 use Rattle.nova_pig_tree.specs.declared.token.Symbol.TheVariants as s
-use Rattle.nova_pig_expr.specs.Grammar.{whole}
-use Rattle.nova_pig_expr.specs.Reading.{and_then, read, At, field_at}
-use Rattle.nova_pig_expr.proofs.Steps.{bound, same_rest, read-shrinks, field_at-shrinks}
-use Rattle.nova_pig_statement.specs.Statement.{kind_of}
-use Rattle.nova_pig_statement.specs.Reads.{some_kind, kind_at, label_at, flatten_at, value_at, item_at, name_at}
-use Rattle.nova_pig_statement.proofs.Lists.{NoLonger}
+use Rattle.nova_pig_grammar.specs.Expression.{whole}
+use Rattle.nova_pig_grammar.specs.ExpressionReading.{and_then, read, At, field_at}
+use Rattle.nova_pig_grammar.proofs.Steps.{bound, same_rest, read-shrinks, field_at-shrinks}
+use Rattle.nova_pig_grammar.specs.Statement.{kind_of}
+use Rattle.nova_pig_grammar.specs.StatementReading.{some_kind, kind_at, label_at, flatten_at, value_at, item_at, name_at}
+use Rattle.nova_pig_grammar.proofs.Lists.{NoLonger}
 
 pub field-no_longer : NoLonger field_at
 field-no_longer = field_at-shrinks

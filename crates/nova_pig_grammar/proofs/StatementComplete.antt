@@ -7,18 +7,18 @@ use Rattle.nova_pig_tree.specs.declared.token.Token.{Token}
 use Rattle.nova_pig_tree.specs.declared.token.Token.TheVariants.{Ident, Word, Symbol}
 use Rattle.nova_pig_tree.specs.declared.token.Word.TheVariants as w
 use Rattle.nova_pig_tree.specs.declared.token.Symbol.TheVariants as s
-use Rattle.nova_pig_expr.specs.Grammar as g
-use Rattle.nova_pig_expr.specs.Grammar.{Part, Derives, IsField, whole}
-use Rattle.nova_pig_expr.specs.Reading.{and_then, field_at}
-use Rattle.nova_pig_expr.proofs.Complete.{field-read, Stops}
-use Rattle.nova_pig_statement.specs.Reads.{name_at, columns_at, shut, by_at, op_at, two, comma_at, ended, body_of, all_of}
-use Rattle.nova_pig_statement.specs.Statement as st
-use Rattle.nova_pig_statement.specs.Statement.{Listed, IsLabel, IsItem, IsColumns, IsName, IsOp, Ended, IsStatement}
+use Rattle.nova_pig_grammar.specs.Expression as g
+use Rattle.nova_pig_grammar.specs.Expression.{IsField}
+use Rattle.nova_pig_grammar.specs.ExpressionReading.{and_then, closed, field_at}
+use Rattle.nova_pig_grammar.proofs.ExpressionComplete.{field-read, Stops}
+use Rattle.nova_pig_grammar.specs.StatementReading.{name_at, columns_at, by_at, op_at, two, comma_at, ended, body_of, all_of}
+use Rattle.nova_pig_grammar.specs.Statement as st
+use Rattle.nova_pig_grammar.specs.Statement.{IsColumns, IsName, IsOp, Ended, IsStatement}
 use Rattle.nova_pig_tree.specs.declared.statement.Body.{Body}
 use Rattle.nova_pig_tree.specs.declared.statement.Body.TheVariants as body
-use Rattle.nova_pig_statement.proofs.Parts.{foreach-complete, filter-complete}
-use Rattle.nova_pig_statement.proofs.Shrink.{field-no_longer, name-no_longer}
-use Rattle.nova_pig_statement.proofs.Listing.{Complete, listed-complete}
+use Rattle.nova_pig_grammar.proofs.Parts.{foreach-complete, filter-complete}
+use Rattle.nova_pig_grammar.proofs.Shrink.{field-no_longer, name-no_longer}
+use Rattle.nova_pig_grammar.proofs.Listing.{Complete, listed-complete}
 
 primary-stops : (rest : List Token) → Ended rest → Stops g.Primary rest
 primary-stops [] h = absurd h
@@ -45,7 +45,7 @@ pub columns-complete : Complete columns_at IsColumns Ended
 columns-complete ts fs (st.single {a = a} d) rest h = one-column d rest ∙ ap (λ r. and_then r (λ a us. Some (a ∷ [], us))) (field-complete ts a d rest h)
 columns-complete us fs (st.several {ts = ts} d) rest h =
     ap (λ vs. columns_at (Symbol s.Open ∷ vs)) (append_assoc ts (Symbol s.Close ∷ []) rest)
-    ∙ ap (λ r. and_then r shut) (listed-complete field_at IsField Ended field-no_longer field-complete (λ ts. refl) d (Symbol s.Close ∷ rest) refl refl)
+    ∙ ap (λ r. and_then r closed) (listed-complete field_at IsField Ended field-no_longer field-complete (λ ts. refl) d (Symbol s.Close ∷ rest) refl refl)
 
 pub op-complete : {ts : List Token} {o : Op} → IsOp ts o → (rest : List Token) → op_at (ts ++ Symbol s.Semicolon ∷ rest) ≡ Some (o, Symbol s.Semicolon ∷ rest)
 op-complete st.load rest = refl

@@ -7,39 +7,35 @@ use Rattle.nova_pig_tree.specs.declared.token.Token.{Token}
 use Rattle.nova_pig_tree.specs.declared.token.Token.TheVariants.{Ident, Word, Group, Literal, Symbol}
 use Rattle.nova_pig_tree.specs.declared.token.Word.TheVariants as w
 use Rattle.nova_pig_tree.specs.declared.token.Symbol.TheVariants as s
-use Rattle.nova_pig_expr.specs.Grammar.{IsField, whole}
-use Rattle.nova_pig_expr.specs.Reading.{Reading, and_then, read, At, field_at}
-use Rattle.nova_pig_expr.proofs.Steps.{bound, same_rest, same_value}
-use Rattle.nova_pig_expr.proofs.Sound.{read-sound, field_at-sound}
-use Rattle.nova_pig_statement.specs.Reads.{listed, item_at, name_at, columns_at, shut, by_at, generate_at, op_at, two, comma_at, ended, cut_at, body_of, all_of}
-use Rattle.nova_pig_statement.specs.Statement as st
-use Rattle.nova_pig_statement.specs.Statement.{Listed, IsLabel, IsItem, IsColumns, IsName, IsOp, Ended, IsStatement}
+use Rattle.nova_pig_grammar.specs.Expression.{IsField, whole}
+use Rattle.nova_pig_grammar.specs.ExpressionReading.{Reading, and_then, read, At, closed, field_at}
+use Rattle.nova_pig_grammar.proofs.Steps.{bound, same_rest, same_value}
+use Rattle.nova_pig_grammar.proofs.ExpressionSound.{read-sound, field_at-sound, joined, closed-sound}
+use Rattle.nova_pig_grammar.specs.StatementReading.{listed, item_at, name_at, columns_at, by_at, generate_at, op_at, two, comma_at, ended, cut_at, body_of, all_of}
+use Rattle.nova_pig_grammar.specs.Statement as st
+use Rattle.nova_pig_grammar.specs.Statement.{Listed, IsColumns, IsName, IsOp, IsStatement}
 use Rattle.nova_pig_tree.specs.declared.statement.Body.{Body}
 use Rattle.nova_pig_tree.specs.declared.statement.Body.TheVariants as body
-use Rattle.nova_pig_statement.proofs.Parts.{items-sound}
+use Rattle.nova_pig_grammar.proofs.Parts.{items-sound}
 use Rattle.std.proofs.Common.{Result, Ok, Err, IfOk, MatchResult}
-use Rattle.nova_pig_expr.specs.declared.fault.Fault.{Fault}
-use Rattle.nova_pig_expr.specs.declared.fault.Fault.TheVariants.{Syntax, Memory}
-use Rattle.nova_pig_statement.specs.Reads.{IsBodyOf}
-use Rattle.nova_pig_statement.proofs.Cut.{cut-complete}
-use Rattle.nova_pig_statement.proofs.Listing.{Sound, joined, listed-sound}
+use Rattle.nova_pig_grammar.specs.declared.fault.Fault.{Fault}
+use Rattle.nova_pig_grammar.specs.declared.fault.Fault.TheVariants.{Syntax, NoMemory}
+use Rattle.nova_pig_grammar.specs.StatementReading.{IsBodyOf}
+use Rattle.nova_pig_grammar.proofs.StatementComplete.{cut-complete}
+use Rattle.nova_pig_grammar.proofs.Listing.{Sound, listed-sound}
 
 column-other : (ts : List Token) (fs : List Field) (rest : List Token) → and_then (field_at ts) (λ a us. Some (a ∷ [], us)) ≡ Some (fs, rest)
-    → (front : List Token) × (ts ≡ front ++ rest) × IsColumns front fs
+    → (prefix : List Token) × (ts ≡ prefix ++ rest) × IsColumns prefix fs
 column-other ts fs rest eq =
     let (a, mid, e1, then) = bound (field_at ts) (λ a us. Some (a ∷ [], us)) eq in
     let (f, f-is, d) = field_at-sound ts a mid e1 in
     (f, f-is ∙ ap (λ r. f ++ r) (same_rest then), subst (λ z. IsColumns f z) (same_value then) (st.single d))
 
-shut-sound : {A : Type 0} (x : A) (ts : List Token) (y : A) (rest : List Token) → shut x ts ≡ Some (y, rest) → (ts ≡ Symbol s.Close ∷ rest) × (x ≡ y)
-shut-sound x (Symbol s.Close ∷ ts) y rest eq = (ap (λ us. Symbol s.Close ∷ us) (same_rest eq), same_value eq)
-shut-sound x _ y rest eq = absurd cc
-
 pub columns-sound : Sound columns_at IsColumns
 columns-sound (Symbol s.Open ∷ ts) fs rest eq =
-    let (gs, mid, e1, then) = bound (listed field_at ts) shut eq in
+    let (gs, mid, e1, then) = bound (listed field_at ts) closed eq in
     let (f, f-is, d) = listed-sound field_at IsField field_at-sound ts gs mid e1 in
-    let (mid-is, same) = shut-sound gs mid fs rest then in (
+    let (mid-is, same) = closed-sound gs mid fs rest then in (
       Symbol s.Open ∷ f ++ Symbol s.Close ∷ [],
       ap (λ us. Symbol s.Open ∷ us) (f-is ∙ ap (λ r. f ++ r) mid-is ∙ sym (append_assoc f (Symbol s.Close ∷ []) rest)),
       subst (λ z. IsColumns (Symbol s.Open ∷ f ++ Symbol s.Close ∷ []) z) same (st.several d),
@@ -66,7 +62,7 @@ op-along : {x y : Op} (ts : List Token) → IsOp ts x → x ≡ y → IsOp ts y
 op-along ts d eq = subst (λ z. IsOp ts z) eq d
 
 two-sound : (ts f : List Token) (ns : List (List ℕ)) (mid : List Token) (o : Op) (rest : List Token) → ts ≡ f ++ mid → Listed IsName f ns → two ns mid ≡ Some (o, rest)
-    → (front : List Token) × (Word w.Union ∷ ts ≡ front ++ rest) × IsOp front o
+    → (prefix : List Token) × (Word w.Union ∷ ts ≡ prefix ++ rest) × IsOp prefix o
 two-sound ts f (a ∷ b ∷ cs) mid o rest is d eq =
     (Word w.Union ∷ f, ap (λ us. Word w.Union ∷ us) (is ∙ ap (λ r. f ++ r) (same_rest eq)), op-along (Word w.Union ∷ f) (st.union d) (same_value eq))
 two-sound ts f (a ∷ []) mid o rest is d eq = absurd cc
@@ -149,7 +145,7 @@ pub found_cut : (cut : List Token) (r : Result Body Fault) → IsBodyOf cut r �
 found_cut cut (Ok b) e = cut-sound cut b e
 found_cut cut (Err f) e = tt
 
-pub given_cut : (cut : List Token) (r : Result Body Fault) → IsBodyOf cut r → (b : Body) → IsStatement cut b → MatchResult r (λ found. found ≡ b) (λ e. e ≡ Memory)
+pub given_cut : (cut : List Token) (r : Result Body Fault) → IsBodyOf cut r → (b : Body) → IsStatement cut b → MatchResult r (λ found. found ≡ b) (λ e. e ≡ NoMemory)
 given_cut cut (Ok a) e b d = let k = sym e ∙ cut-complete d in cc
 given_cut cut (Err Syntax) e b d = let k = sym e ∙ cut-complete d in absurd cc
-given_cut cut (Err Memory) e b d = refl
+given_cut cut (Err NoMemory) e b d = refl

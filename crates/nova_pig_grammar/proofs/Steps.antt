@@ -9,12 +9,12 @@ use Rattle.nova_pig_tree.specs.declared.token.Token.{Token}
 use Rattle.nova_pig_tree.specs.declared.token.Token.TheVariants.{Ident, Word, Group, Number, Position, Literal, Symbol}
 use Rattle.nova_pig_tree.specs.declared.token.Word.TheVariants as w
 use Rattle.nova_pig_tree.specs.declared.token.Symbol.TheVariants as s
-use Rattle.nova_pig_expr.specs.declared.operators.Level.{Level}
-use Rattle.nova_pig_expr.specs.declared.operators.Level.TheVariants as l
-use Rattle.nova_pig_expr.specs.declared.operators.BinaryOp.{BinaryOp}
-use Rattle.nova_pig_expr.specs.Operators.{operator, comparison, combine, call_kind, group_word}
-use Rattle.nova_pig_expr.specs.Grammar.{Part, Left, Neg, Comp, Unary, Primary, operand, whole}
-use Rattle.nova_pig_expr.specs.Reading.{Reading, Reader, and_then, Goal, At, After, left, after_by, after, neg, compared_by, compared, comp, unary, closed, third, branches, opened, field_after, group_after, field_at, refer, call_field, call_after, named_by, primary, step, read_by, rank, fuel, read}
+use Rattle.nova_pig_grammar.specs.declared.operators.Level.{Level}
+use Rattle.nova_pig_grammar.specs.declared.operators.Level.TheVariants as l
+use Rattle.nova_pig_grammar.specs.declared.operators.BinaryOp.{BinaryOp}
+use Rattle.nova_pig_grammar.specs.Operators.{operator, comparison, combine, call_kind, group_word}
+use Rattle.nova_pig_grammar.specs.Expression.{Part, Left, Neg, Comp, Unary, Primary, operand, whole}
+use Rattle.nova_pig_grammar.specs.ExpressionReading.{Reading, Reader, and_then, Goal, At, After, left, after_by, after, neg, compared_by, compared, comp, unary, closed, third, branches, opened, field_after, group_after, field_at, refer, call_field, call_after, named_by, primary, step, read_by, rank, fuel, read}
 
 -- a reading of two parts that succeeded
 pub bound : {A B : Type 0} (r : Reading A) (k : A → Reader B) {y : B} {rest : List Token} → and_then r k ≡ Some (y, rest)
@@ -38,6 +38,10 @@ Within (After l x) ts rest = length rest ≤ length ts
 
 abbrev pub Shrinks : (Goal → Reader Expr) → Type 0
 Shrinks p = (g : Goal) (ts : List Token) (x : Expr) (rest : List Token) → p g ts ≡ Some (x, rest) → Within g ts rest
+
+closed-shrinks : (x : Expr) (ts : List Token) (y : Expr) (rest : List Token) → closed x ts ≡ Some (y, rest) → length rest < length ts
+closed-shrinks x (Symbol s.Close ∷ ts) y rest eq = let same : ts ≡ rest = same_rest eq in rw (← same) (omega arith)
+closed-shrinks x _ y rest eq = absurd cc
 
 module _ (p : Goal → Reader Expr) (shrinks : Shrinks p) where
   left-shrinks : (l : Level) (ts : List Token) (x : Expr) (rest : List Token) → left p l ts ≡ Some (x, rest) → length rest < length ts
@@ -93,10 +97,6 @@ module _ (p : Goal → Reader Expr) (shrinks : Shrinks p) where
       let b : length rest ≤ length mid = compared-shrinks y mid x rest then in
       omega arith
 
-  closed-shrinks : (x : Expr) (ts : List Token) (y : Expr) (rest : List Token) → closed x ts ≡ Some (y, rest) → length rest < length ts
-  closed-shrinks x (Symbol s.Close ∷ ts) y rest eq = let same : ts ≡ rest = same_rest eq in rw (← same) (omega arith)
-  closed-shrinks x _ y rest eq = absurd cc
-
   third-shrinks : (ts : List Token) (z : Expr) (rest : List Token) → third p ts ≡ Some (z, rest) → length rest < length ts
   third-shrinks (Symbol s.Colon ∷ ts) z rest eq =
       let (v, mid, first, then) = bound (p (At whole) ts) closed eq in
@@ -151,15 +151,11 @@ call_field-shrinks (Symbol s.Dot ∷ ts) y rest eq =
     let same : mid ≡ rest = same_rest then in let h = field_at-shrinks ts z mid first in rw (← same) (omega arith)
 call_field-shrinks ts y rest eq = let same : ts ≡ rest = same_rest eq in rw (← same) (omega arith)
 
-shut-shrinks : (x : Expr) (ts : List Token) (y : Expr) (rest : List Token) → closed x ts ≡ Some (y, rest) → length rest < length ts
-shut-shrinks x (Symbol s.Close ∷ ts) y rest eq = let same : ts ≡ rest = same_rest eq in rw (← same) (omega arith)
-shut-shrinks x _ y rest eq = absurd cc
-
 call_after-shrinks : (k : CallKind) (ts : List Token) (y : Expr) (rest : List Token) → call_after k ts ≡ Some (y, rest) → length rest ≤ length ts
 call_after-shrinks k (Ident a ∷ ts) y rest eq =
     let (o, mid, first, then) = bound (call_field ts) (λ o. closed (e.Call k a o)) eq in
     let h = call_field-shrinks ts o mid first in
-    let h' = shut-shrinks (e.Call k a o) mid y rest then in
+    let h' = closed-shrinks (e.Call k a o) mid y rest then in
     omega arith
 call_after-shrinks k _ y rest eq = absurd cc
 
@@ -196,7 +192,7 @@ read_by-shrinks zero g ts x rest eq = absurd cc
 read_by-shrinks (suc n) g ts x rest eq = step-shrinks (read_by n) (read_by-shrinks n) g ts x rest eq
 
 -- two readers that agree where a step may ask
-bind-same : {A B : Type 0} (r : Reading A) {r' : Reading A} (k k' : A → Reader B) → r ≡ r'
+pub bind-same : {A B : Type 0} (r : Reading A) {r' : Reading A} (k k' : A → Reader B) → r ≡ r'
     → ((x : A) (rest : List Token) → r ≡ Some (x, rest) → k x rest ≡ k' x rest) → and_then r k ≡ and_then r' k'
 bind-same (Some p) k k' eq same = same p.0 p.1 refl ∙ ap (λ r. and_then r k') eq
 bind-same None k k' eq same = ap (λ r. and_then r k') eq
@@ -204,7 +200,7 @@ bind-same None k k' eq same = ap (λ r. and_then r k') eq
 abbrev Agree : (Goal → Reader Expr) → (Goal → Reader Expr) → ℕ → Type 0
 Agree p q n = (h : Goal) (us : List Token) → fuel h us < n → p h us ≡ q h us
 
-operand-lower : (l : Level) → rank (At (operand l)) < rank (At (Left l))
+pub operand-lower : (l : Level) → rank (At (operand l)) < rank (At (Left l))
 operand-lower l.Or = omega arith
 operand-lower l.And = omega arith
 operand-lower l.Sum = omega arith

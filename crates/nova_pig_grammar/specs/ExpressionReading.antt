@@ -1,7 +1,7 @@
 -- The reading of tokens from the left, which a script has one of.
 use Rattle.std.specs.Prelude.{◌≡◌, ℕ, zero, suc, ◌+◌, ◌*◌, ◌<◌, Bool, true, false, List, [], ◌∷◌, length, Option, Some, None, Result, Ok, Err}
-use Rattle.nova_pig_expr.specs.declared.fault.Fault.{Fault}
-use Rattle.nova_pig_expr.specs.declared.fault.Fault.TheVariants.{Syntax, Memory}
+use Rattle.nova_pig_grammar.specs.declared.fault.Fault.{Fault}
+use Rattle.nova_pig_grammar.specs.declared.fault.Fault.TheVariants.{Syntax, NoMemory}
 use Rattle.nova_pig_tree.specs.declared.expression.Field.{Field}
 use Rattle.nova_pig_tree.specs.declared.expression.Field.TheVariants as f
 use Rattle.nova_pig_tree.specs.declared.expression.CallKind.{CallKind}
@@ -12,11 +12,11 @@ use Rattle.nova_pig_tree.specs.declared.token.Token.{Token}
 use Rattle.nova_pig_tree.specs.declared.token.Token.TheVariants.{Ident, Word, Group, Number, Position, Literal, Symbol}
 use Rattle.nova_pig_tree.specs.declared.token.Word.TheVariants as w
 use Rattle.nova_pig_tree.specs.declared.token.Symbol.TheVariants as s
-use Rattle.nova_pig_expr.specs.declared.operators.Level.{Level}
-use Rattle.nova_pig_expr.specs.declared.operators.Level.TheVariants as l
-use Rattle.nova_pig_expr.specs.declared.operators.BinaryOp.{BinaryOp}
-use Rattle.nova_pig_expr.specs.Operators.{operator, comparison, combine, call_kind, group_word}
-use Rattle.nova_pig_expr.specs.Grammar.{Part, Left, Neg, Comp, Unary, Primary, operand, whole}
+use Rattle.nova_pig_grammar.specs.declared.operators.Level.{Level}
+use Rattle.nova_pig_grammar.specs.declared.operators.Level.TheVariants as l
+use Rattle.nova_pig_grammar.specs.declared.operators.BinaryOp.{BinaryOp}
+use Rattle.nova_pig_grammar.specs.Operators.{operator, comparison, combine, call_kind, group_word}
+use Rattle.nova_pig_grammar.specs.Expression.{Part, Left, Neg, Comp, Unary, Primary, operand, whole}
 
 -- what is left after a part was read
 abbrev pub Reading : Type 0 → Type 0
@@ -41,7 +41,8 @@ pub data Goal : Type 0 where
   At : Part → Goal
   After : Level → Expr → Goal
 
-abbrev pub closed : Expr → Reader Expr
+-- the `)` after a part
+abbrev pub closed : {A : Type 0} → A → Reader A
 closed x (Symbol s.Close ∷ ts) = Some (x, ts)
 closed x _ = None
 
@@ -174,7 +175,7 @@ read g ts = read_by (suc (fuel g ts)) g ts
 abbrev pub Answers : {A : Type 0} → Reading A → Result A Fault → List Token → Type 0
 Answers reading (Ok x) rest = reading ≡ Some (x, rest)
 Answers reading (Err Syntax) rest = reading ≡ None
-Answers reading (Err Memory) rest = Unit {0}
+Answers reading (Err NoMemory) rest = Unit {0}
 
 -- what reading goes on with after operands of the level, where this operator was next and taken, or none was
 abbrev pub Next : Level → Option BinaryOp → List Token → List Token → Type 0
@@ -202,14 +203,14 @@ abbrev pub NextMark : Result Bool Fault → List Token → List Token → Type 0
 NextMark (Ok true) old new = (length new < length old) × ((x : Expr) → opened read x old ≡ (branches read >>= (λ b. pure (e.If x b.0 b.1))) new)
 NextMark (Ok false) old new = (length new < length old) × ((x : Expr) → opened read x old ≡ Some (x, new))
 NextMark (Err Syntax) old new = (x : Expr) → opened read x old ≡ None
-NextMark (Err Memory) old new = Unit {0}
+NextMark (Err NoMemory) old new = Unit {0}
 
 abbrev pub NextColon : Result (Unit {0}) Fault → List Token → List Token → Type 0
 NextColon (Ok _) old new = (length new < length old) × (third read old ≡ (read (At whole) >>= closed) new)
 NextColon (Err Syntax) old new = third read old ≡ None
-NextColon (Err Memory) old new = Unit {0}
+NextColon (Err NoMemory) old new = Unit {0}
 
 abbrev pub NextClose : Result (Unit {0}) Fault → List Token → List Token → Type 0
 NextClose (Ok _) old new = (length new < length old) × ((x : Expr) → closed x old ≡ Some (x, new))
 NextClose (Err Syntax) old new = (x : Expr) → closed x old ≡ None
-NextClose (Err Memory) old new = Unit {0}
+NextClose (Err NoMemory) old new = Unit {0}

@@ -1,5 +1,5 @@
 -- What single tokens are to the grammar.
-use Rattle.std.specs.Prelude.{ℕ, Bool, true, false, if◌then◌else◌, List, Option, Some, None, codes}
+use Rattle.std.specs.Prelude.{if◌then◌else◌, ℕ, Bool, true, false, List, Option, Some, None, codes}
 use Rattle.std.specs.Str.{bytes_eq}
 use Rattle.nova_pig_tree.specs.declared.expression.CallKind.{CallKind}
 use Rattle.nova_pig_tree.specs.declared.expression.CallKind.TheVariants as k
@@ -10,10 +10,10 @@ use Rattle.nova_pig_tree.specs.declared.token.Token.{Token}
 use Rattle.nova_pig_tree.specs.declared.token.Token.TheVariants.{Word, Symbol}
 use Rattle.nova_pig_tree.specs.declared.token.Word.TheVariants as w
 use Rattle.nova_pig_tree.specs.declared.token.Symbol.TheVariants as s
-use Rattle.nova_pig_expr.specs.declared.operators.Level.{Level}
-use Rattle.nova_pig_expr.specs.declared.operators.Level.TheVariants as l
-use Rattle.nova_pig_expr.specs.declared.operators.BinaryOp.{BinaryOp}
-use Rattle.nova_pig_expr.specs.declared.operators.BinaryOp.TheVariants as b
+use Rattle.nova_pig_grammar.specs.declared.operators.Level.{Level}
+use Rattle.nova_pig_grammar.specs.declared.operators.Level.TheVariants as l
+use Rattle.nova_pig_grammar.specs.declared.operators.BinaryOp.{BinaryOp}
+use Rattle.nova_pig_grammar.specs.declared.operators.BinaryOp.TheVariants as b
 
 -- the operator of this level that the token is
 abbrev pub operator : Level → Token → Option BinaryOp

@@ -1,5 +1,5 @@
 -- The grammar of statements, one case per production.
-use Rattle.std.specs.Prelude.{◌≡◌, ℕ, Bool, true, false, List, [], ◌∷◌, ◌++◌, Option, Some, None, if◌then◌else◌, codes}
+use Rattle.std.specs.Prelude.{if◌then◌else◌, ◌≡◌, ℕ, Bool, true, false, List, [], ◌∷◌, ◌++◌, Option, Some, None, codes}
 use Rattle.nova_value.specs.declared.value.Kind.{Kind}
 use Rattle.nova_pig_tree.specs.declared.expression.Field.{Field}
 use Rattle.nova_pig_tree.specs.declared.statement.Item.{Item}
@@ -13,7 +13,7 @@ use Rattle.nova_pig_tree.specs.declared.token.Token.{Token}
 use Rattle.nova_pig_tree.specs.declared.token.Token.TheVariants.{Ident, Word, Group, Literal, Symbol}
 use Rattle.nova_pig_tree.specs.declared.token.Word.TheVariants as w
 use Rattle.nova_pig_tree.specs.declared.token.Symbol.TheVariants as s
-use Rattle.nova_pig_expr.specs.Grammar.{Derives, IsField, whole}
+use Rattle.nova_pig_grammar.specs.Expression.{Derives, IsField, whole}
 use Rattle.nova_value.specs.declared.value.Kind.TheVariants as kind
 use Rattle.std.specs.Str.{bytes_eq}
 

@@ -12,11 +12,11 @@ use Rattle.nova_pig_tree.specs.declared.token.Token.{Token}
 use Rattle.nova_pig_tree.specs.declared.token.Token.TheVariants.{Ident, Word, Group, Literal, Symbol}
 use Rattle.nova_pig_tree.specs.declared.token.Word.TheVariants as w
 use Rattle.nova_pig_tree.specs.declared.token.Symbol.TheVariants as s
-use Rattle.nova_pig_expr.specs.declared.fault.Fault.{Fault}
-use Rattle.nova_pig_expr.specs.declared.fault.Fault.TheVariants.{Syntax, Memory}
-use Rattle.nova_pig_expr.specs.Grammar.{whole}
-use Rattle.nova_pig_statement.specs.Statement.{kind_of}
-use Rattle.nova_pig_expr.specs.Reading.{Reading, Reader, and_then, ◌>>=◌, pure, read, At, field_at}
+use Rattle.nova_pig_grammar.specs.declared.fault.Fault.{Fault}
+use Rattle.nova_pig_grammar.specs.declared.fault.Fault.TheVariants.{Syntax, NoMemory}
+use Rattle.nova_pig_grammar.specs.Expression.{whole}
+use Rattle.nova_pig_grammar.specs.Statement.{kind_of}
+use Rattle.nova_pig_grammar.specs.ExpressionReading.{Reading, Reader, and_then, ◌>>=◌, pure, read, At, closed, field_at}
 
 -- one or more, with commas between; no more than so many after the first
 module _ {A : Type 0} (one : Reader A) where
@@ -33,19 +33,14 @@ module _ {A : Type 0} (one : Reader A) where
 
 -- after some that were read
 abbrev pub ahead : {A : Type 0} → List A → Reading (List A) → Reading (List A)
-ahead front r = and_then r (λ as'. pure (front ++ as'))
+ahead prefix r = and_then r (λ as'. pure (prefix ++ as'))
 
 abbrev pub name_at : Reader (List ℕ)
 name_at (Ident a ∷ ts) = Some (a, ts)
 name_at _ = None
 
--- the end of columns in parentheses
-abbrev pub shut : {A : Type 0} → A → Reader A
-shut a (Symbol s.Close ∷ ts) = Some (a, ts)
-shut a _ = None
-
 abbrev pub columns_at : Reader (List Field)
-columns_at (Symbol s.Open ∷ ts) = (listed field_at >>= shut) ts
+columns_at (Symbol s.Open ∷ ts) = (listed field_at >>= closed) ts
 columns_at ts = (field_at >>= (λ a. pure (a ∷ []))) ts
 
 abbrev pub some_kind : Option Kind → Reader (Option Kind)
@@ -162,4 +157,4 @@ NextComma false old new = (new ≡ old) × (begins_comma old ≡ false)
 abbrev pub IsBodyOf : List Token → Result Body Fault → Type 0
 IsBodyOf cut (Ok b) = body_of cut ≡ Some b
 IsBodyOf cut (Err Syntax) = body_of cut ≡ None
-IsBodyOf cut (Err Memory) = Unit {0}
+IsBodyOf cut (Err NoMemory) = Unit {0}

@@ -7,17 +7,17 @@ use std::alloc::{AllocError, AllocFailed};
 pub enum Fault {
     /// They are not what was asked for.
     Syntax,
-    /// There was no memory for the tree.
-    Memory,
+    /// Out of memory.
+    NoMemory,
 }
 
 impl From<AllocError> for Fault {
     ghost use Rattle.std.specs.Prelude.{◌≡◌};
-    ghost use Rattle.nova_pig_expr.specs.declared.fault.Fault.TheVariants.{Memory};
+    ghost use Rattle.nova_pig_grammar.specs.declared.fault.Fault.TheVariants.{NoMemory};
 
-    ghost from_gives = { λ _ e. e ≡ Memory };
+    ghost from_gives = { λ _ e. e ≡ NoMemory };
 
     fn from(_error: AllocError) -> Fault {
-        Fault::Memory
+        Fault::NoMemory
     }
 }

@@ -1,11 +1,12 @@
 //! Items, columns and names.
 
 ghost use Rattle.std.specs.Prelude.{◌≡◌, ◌<◌, length, OnOk};
-ghost use Rattle.nova_pig_expr.specs.Reading.{Answers, field_at};
-ghost use Rattle.nova_pig_statement.specs.Reads as spec;
-ghost use Rattle.nova_pig_statement.specs.Statement as grammar;
+ghost use Rattle.nova_pig_grammar.specs.ExpressionReading.{Answers, field_at};
+ghost use Rattle.nova_pig_grammar.specs.StatementReading as spec;
+ghost use Rattle.nova_pig_grammar.specs.Statement as grammar;
 
-use nova_pig_expr::{Fault, Parser};
+use crate::fault::Fault;
+use crate::parser::Parser;
 use nova_pig_tree::{Field, Item, Kind, Str, Symbol, Token, Word};
 use sqlite_items::Items;
 use std::alloc::Global;

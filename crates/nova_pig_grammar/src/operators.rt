@@ -1,7 +1,7 @@
 //! What single tokens are to expressions.
 
 ghost use Rattle.std.specs.Prelude.{◌≡◌};
-ghost use Rattle.nova_pig_expr.specs.Operators as spec;
+ghost use Rattle.nova_pig_grammar.specs.Operators as spec;
 
 use nova_pig_tree::{CallKind, CompareOp, Symbol, Token, Word};
 

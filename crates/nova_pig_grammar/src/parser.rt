@@ -1,10 +1,10 @@
 //! Reads expressions from tokens.
 
 ghost use Rattle.std.specs.Prelude.{◌≡◌, ◌<◌, ◌↔◌, [], ◌∷◌, List, length, map, MatchOption, IsTrue, OnOk, IfOk};
-ghost use Rattle.nova_pig_expr.specs.Operators as spec;
+ghost use Rattle.nova_pig_grammar.specs.Operators as spec;
 ghost use Rattle.nova_pig_tree.specs.declared.token.Token.{Token};
-ghost use Rattle.nova_pig_expr.specs.Reading.{Answers, Next, NextNot, NextMinus, NextComparison, NextOpen, NextMark, NextColon, NextClose, read, opened, named, single, field_after, group_after, field_at, call_field, call_after, At};
-ghost use Rattle.nova_pig_expr.specs.Grammar.{Left, Neg, Comp, Unary, Primary, operand, whole};
+ghost use Rattle.nova_pig_grammar.specs.ExpressionReading.{Answers, Next, NextNot, NextMinus, NextComparison, NextOpen, NextMark, NextColon, NextClose, read, opened, named, single, field_after, group_after, field_at, call_field, call_after, At};
+ghost use Rattle.nova_pig_grammar.specs.Expression.{Left, Neg, Comp, Unary, Primary, operand, whole};
 
 use crate::fault::Fault;
 use crate::operators::{
@@ -86,7 +86,7 @@ impl<'a> Parser<'a> {
         Some(&first.token)
     }
 
-    /// Takes an expression, the longest that stands in front.
+    /// Takes an expression, the longest that the tokens begin with.
     pub fn whole(&mut self, alloc: Global) -> Result<Boxed<Expr>, Fault>
         ensures { Answers (read (At whole) self.old) result self.new }
     {

@@ -3,7 +3,7 @@
 ghost use Rattle.std.specs.Prelude.{◌≡◌, List, map, IfOk, IsErrOf, MatchResult};
 ghost use Rattle.nova_pig_tree.specs.declared.expression.Expr.{Expr};
 ghost use Rattle.nova_pig_tree.specs.declared.token.Token.{Token};
-ghost use Rattle.nova_pig_expr.specs.Grammar.{Part, Derives, whole};
+ghost use Rattle.nova_pig_grammar.specs.Expression.{Part, Derives, whole};
 
 use crate::fault::Fault;
 use crate::parser::Parser;
@@ -15,8 +15,8 @@ use std::alloc::Global;
 pub fn read_expr(alloc: Global, tokens: &[Placed]) -> Result<Boxed<Expr>, Fault>
     // What is read is derived.
     ensures sound { IfOk result (λ x. Derives whole (map (λ q. q.token) tokens.now) x) }
-    // What is derived is read, unless memory fails.
-    ensures complete { (x : Expr) → Derives whole (map (λ q. q.token) tokens.now) x → MatchResult result (λ y. y ≡ x) (λ e. e ≡ Fault.Memory) }
+    // What is derived is read, unless memory runs out.
+    ensures complete { (x : Expr) → Derives whole (map (λ q. q.token) tokens.now) x → MatchResult result (λ y. y ≡ x) (λ e. e ≡ Fault.NoMemory) }
 {
     let mut parser = Parser::new(tokens);
     let found = parser.whole(alloc)?;

@@ -1,13 +1,14 @@
 //! Statements.
 
 ghost use Rattle.std.specs.Prelude.{◌≡◌, ◌<◌, length, map, OnOk, IfOk, MatchResult};
-ghost use Rattle.nova_pig_expr.specs.Reading.{Answers};
-ghost use Rattle.nova_pig_statement.specs.Reads as spec;
-ghost use Rattle.nova_pig_statement.specs.Statement.{IsStatement, OneStatement};
+ghost use Rattle.nova_pig_grammar.specs.ExpressionReading.{Answers};
+ghost use Rattle.nova_pig_grammar.specs.StatementReading as spec;
+ghost use Rattle.nova_pig_grammar.specs.Statement.{IsStatement, OneStatement};
 ghost use Rattle.nova_pig_tree.specs.declared.statement.Body.{Body};
 
+use crate::fault::Fault;
 use crate::item::{columns_at, items_at, name_at, names_at};
-use nova_pig_expr::{Fault, Parser};
+use crate::parser::Parser;
 use nova_pig_tree::{Body, Op, Placed, Str, Symbol, Token, Word};
 use std::alloc::Global;
 
@@ -195,7 +196,7 @@ pub fn cut_body(alloc: Global, cut: &[Placed]) -> Result<Body, Fault>
 /// The statement that these tokens are, both ways: by the grammar.
 pub fn statement_body(alloc: Global, cut: &[Placed]) -> Result<Body, Fault>
     ensures sound { IfOk result (λ b. IsStatement (map (λ q. q.token) cut.now) b) }
-    ensures complete { (b : Body) → IsStatement (map (λ q. q.token) cut.now) b → MatchResult result (λ found. found ≡ b) (λ e. e ≡ Fault.Memory) }
+    ensures complete { (b : Body) → IsStatement (map (λ q. q.token) cut.now) b → MatchResult result (λ found. found ≡ b) (λ e. e ≡ Fault.NoMemory) }
 {
     cut_body(alloc, cut)
 }

@@ -1,13 +1,15 @@
 -- The first cut, and what follows it.
 use Rattle.std.proofs.Common.{◌≡◌, ℕ, zero, suc, ◌+◌, ◌<◌, ◌≤◌, Bool, true, false, List, [], ◌∷◌, ◌++◌, length, take, drop, Ok, Err, refl, ap, sym, ◌∙◌, arith, append_assoc}
 use Rattle.std.specs.Prelude.{if◌then◌else◌}
+use Rattle.std.proofs.lemmas.List.{append-nil}
 use Rattle.std.proofs.Math.ListN.{drop_of_length-le}
+use Rattle.nova_value.specs.Lists.{onto_first}
 use Rattle.nova_pig_tree.specs.declared.statement.Statement.{Statement}
 use Rattle.nova_pig_tree.specs.declared.token.Placed.{Placed}
 use Rattle.nova_pig_parse.specs.declared.text.ParseFault.{ParseFault}
 use Rattle.nova_pig_parse.specs.declared.text.ParseFault.TheVariants as fault
 use Rattle.nova_pig_parse.specs.Limits.{is_semicolon}
-use Rattle.nova_pig_parse.specs.Parse.{onto_first, cuts, before_semicolon, is_none, statements, Statements, ahead, and_more, read_cut, Gives}
+use Rattle.nova_pig_parse.specs.Parse.{cuts, before_semicolon, is_none, statements, Statements, ahead, and_more, read_cut, IsParseOf}
 
 some_by : (t : Bool) (p : Placed) (ps : List Placed) → (before_semicolon ps < length ps → cuts ps ≡ take (before_semicolon ps + 1) ps ∷ cuts (drop (before_semicolon ps + 1) ps))
     → (if t then 0 else 1 + before_semicolon ps) < suc (length ps)
@@ -48,30 +50,26 @@ pub not_none : (p : Placed) (ps : List Placed) → is_none (cuts (p ∷ ps)) ≡
 unfolding cuts
 not_none p ps = some_cut (is_semicolon p.token) p (cuts ps)
 
-ahead_ok : (front : List Statement) (x : Statement) (more : Statements) → ahead front (and_more (Ok x) more) ≡ ahead (front ++ x ∷ []) more
-ahead_ok front x (Ok xs) = ap Ok (sym (append_assoc front (x ∷ []) xs))
-ahead_ok front x (Err f) = refl
+ahead_ok : (prefix : List Statement) (x : Statement) (more : Statements) → ahead prefix (and_more (Ok x) more) ≡ ahead (prefix ++ x ∷ []) more
+ahead_ok prefix x (Ok xs) = ap Ok (sym (append_assoc prefix (x ∷ []) xs))
+ahead_ok prefix x (Err f) = refl
 
-pub turn : (len : ℕ) (front : List Statement) (rest cut more : List Placed) (x : Statement) → cuts rest ≡ cut ∷ cuts more → Ok x ≡ read_cut len (is_none (cuts more)) cut
-    → ahead front (statements len (cuts rest)) ≡ ahead (front ++ x ∷ []) (statements len (cuts more))
+pub turn : (len : ℕ) (prefix : List Statement) (rest cut more : List Placed) (x : Statement) → cuts rest ≡ cut ∷ cuts more → Ok x ≡ read_cut len (is_none (cuts more)) cut
+    → ahead prefix (statements len (cuts rest)) ≡ ahead (prefix ++ x ∷ []) (statements len (cuts more))
 unfolding statements
-turn len front rest cut more x is e =
-    ap (λ cs. ahead front (statements len cs)) is ∙ ap (λ r. ahead front (and_more r (statements len (cuts more)))) (sym e) ∙ ahead_ok front x (statements len (cuts more))
+turn len prefix rest cut more x is e =
+    ap (λ cs. ahead prefix (statements len cs)) is ∙ ap (λ r. ahead prefix (and_more r (statements len (cuts more)))) (sym e) ∙ ahead_ok prefix x (statements len (cuts more))
 
-pub fails : (len : ℕ) (front : List Statement) (rest cut more : List Placed) (all : Statements) (f : ParseFault) → all ≡ ahead front (statements len (cuts rest)) → cuts rest ≡ cut ∷ cuts more
-    → (b : Bool) → b ≡ is_none (cuts more) → Gives {A = Statement} (read_cut len b cut) (Err f) → Gives {A = List Statement} all (Err f)
+pub fails : (len : ℕ) (prefix : List Statement) (rest cut more : List Placed) (all : Statements) (f : ParseFault) → all ≡ ahead prefix (statements len (cuts rest)) → cuts rest ≡ cut ∷ cuts more
+    → (b : Bool) → b ≡ is_none (cuts more) → IsParseOf {A = Statement} (read_cut len b cut) (Err f) → IsParseOf {A = List Statement} all (Err f)
 unfolding statements
-fails len front rest cut more all fault.NoMemory is-all is b b-is e = tt
-fails len front rest cut more all f is-all is b b-is e =
-    sym (is-all ∙ ap (λ cs. ahead front (statements len cs)) is ∙ ap (λ r. ahead front (and_more r (statements len (cuts more)))) (ap (λ b. read_cut len b cut) (sym b-is) ∙ sym e))
+fails len prefix rest cut more all fault.NoMemory is-all is b b-is e = tt
+fails len prefix rest cut more all f is-all is b b-is e =
+    sym (is-all ∙ ap (λ cs. ahead prefix (statements len cs)) is ∙ ap (λ r. ahead prefix (and_more r (statements len (cuts more)))) (ap (λ b. read_cut len b cut) (sym b-is) ∙ sym e))
 
-pub done : (len : ℕ) (front : List Statement) (rest : List Placed) → rest ≡ [] → ahead front (statements len (cuts rest)) ≡ Ok front
+pub done : (len : ℕ) (prefix : List Statement) (rest : List Placed) → rest ≡ [] → ahead prefix (statements len (cuts rest)) ≡ Ok prefix
 unfolding statements cuts
-done len front rest e = ap (λ ps. ahead front (statements len (cuts ps))) e ∙ ap Ok (append_nil front)
-  where
-    append_nil : (xs : List Statement) → xs ++ [] ≡ xs
-    append_nil [] = refl
-    append_nil (x ∷ xs) = ap (λ ys. x ∷ ys) (append_nil xs)
+done len prefix rest e = ap (λ ps. ahead prefix (statements len (cuts ps))) e ∙ ap Ok (append-nil prefix)
 
 pub begun : (len : ℕ) (ps : List Placed) → statements len (cuts ps) ≡ ahead [] (statements len (cuts ps))
 begun len ps = same (statements len (cuts ps))

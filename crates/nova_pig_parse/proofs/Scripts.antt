@@ -3,6 +3,7 @@ use Rattle.std.proofs.Common.{◌≡◌, ℕ, zero, suc, ◌<◌, Bool, true, fa
 use Rattle.std.proofs.lemmas.List.{append-nil}
 use Rattle.std.specs.Prelude.{if◌then◌else◌, ◌&&◌, not}
 use Rattle.std.specs.List.{list_all}
+use Rattle.nova_value.specs.Lists.{onto_first}
 use Rattle.nova_pig_tree.specs.declared.statement.Body.{Body}
 use Rattle.nova_pig_tree.specs.declared.statement.Body.TheVariants as body
 use Rattle.nova_pig_tree.specs.declared.statement.Op.{Op}
@@ -16,13 +17,13 @@ use Rattle.nova_pig_parse.specs.declared.text.ParseFault.{ParseFault}
 use Rattle.nova_pig_parse.specs.declared.text.ParseFault.TheVariants as fault
 use Rattle.nova_pig_parse.specs.Limits.{is_semicolon}
 use Rattle.nova_pig_parse.specs.Script.{tokens_of, spanned, IsScript, empty, store, define, HasNoSemicolon, IsFirstCut, closed, unclosed, place, MayStand, SyntaxAt, here, later}
-use Rattle.nova_pig_statement.specs.Statement as st
-use Rattle.nova_pig_statement.specs.Statement.{IsStatement, IsOp}
-use Rattle.nova_pig_statement.specs.Reads.{body_of}
-use Rattle.nova_pig_parse.specs.Parse.{onto_first, cuts, kept, answer_of, read_cut, Statements, and_more, is_none, statements}
-use Rattle.nova_pig_statement.proofs.Clear.{clear, op-clear}
-use Rattle.nova_pig_statement.proofs.Cut.{cut-complete}
-use Rattle.nova_pig_statement.proofs.Whole.{cut-sound}
+use Rattle.nova_pig_grammar.specs.Statement as st
+use Rattle.nova_pig_grammar.specs.Statement.{IsStatement}
+use Rattle.nova_pig_grammar.specs.StatementReading.{body_of}
+use Rattle.nova_pig_parse.specs.Parse.{cuts, kept, answer_of, read_cut, Statements, and_more, is_none, statements}
+use Rattle.nova_pig_grammar.proofs.Clear.{clear, op-clear}
+use Rattle.nova_pig_grammar.proofs.StatementComplete.{cut-complete}
+use Rattle.nova_pig_grammar.proofs.StatementSound.{cut-sound}
 use Rattle.nova_pig_parse.proofs.Cuts.{not_none}
 
 -- the cuts after the first
@@ -36,13 +37,13 @@ semicolon_none p ps h = by (is_semicolon p.token) h
 none_more : (p : Placed) (ps : List Placed) → is_semicolon p.token ≡ false → HasNoSemicolon ps → HasNoSemicolon (p ∷ ps)
 none_more p ps e h = ap (λ v. not v && list_all (λ p. not (is_semicolon p.token)) ps) e ∙ h
 
-cuts_closed : (front : List Placed) (p : Placed) (rest : List Placed) → HasNoSemicolon front → is_semicolon p.token ≡ true → cuts ((front ++ p ∷ []) ++ rest) ≡ (front ++ p ∷ []) ∷ cuts rest
+cuts_closed : (prefix : List Placed) (p : Placed) (rest : List Placed) → HasNoSemicolon prefix → is_semicolon p.token ≡ true → cuts ((prefix ++ p ∷ []) ++ rest) ≡ (prefix ++ p ∷ []) ∷ cuts rest
 unfolding cuts
 cuts_closed [] p rest none e = ap (λ v. if v then (p ∷ []) ∷ cuts rest else onto_first p (cuts rest)) e
-cuts_closed (q ∷ front) p rest none e =
-    let split = semicolon_none q front none in
-    ap (λ v. if v then (q ∷ []) ∷ cuts ((front ++ p ∷ []) ++ rest) else onto_first q (cuts ((front ++ p ∷ []) ++ rest))) split.0
-    ∙ ap (onto_first q) (cuts_closed front p rest split.1 e)
+cuts_closed (q ∷ prefix) p rest none e =
+    let split = semicolon_none q prefix none in
+    ap (λ v. if v then (q ∷ []) ∷ cuts ((prefix ++ p ∷ []) ++ rest) else onto_first q (cuts ((prefix ++ p ∷ []) ++ rest))) split.0
+    ∙ ap (onto_first q) (cuts_closed prefix p rest split.1 e)
 
 cuts_unclosed : (p : Placed) (ps : List Placed) → HasNoSemicolon (p ∷ ps) → cuts (p ∷ ps) ≡ (p ∷ ps) ∷ []
 unfolding cuts
@@ -53,7 +54,7 @@ cuts_unclosed p (q ∷ ps) none =
 
 cuts_first : {cut rest : List Placed} → IsFirstCut cut rest → cuts (cut ++ rest) ≡ cut ∷ cuts rest
 unfolding cuts
-cuts_first (closed front p rest none e) = cuts_closed front p rest none e
+cuts_first (closed prefix p rest none e) = cuts_closed prefix p rest none e
 cuts_first (unclosed p ps none) = ap cuts (append-nil (p ∷ ps)) ∙ cuts_unclosed p ps none
 
 -- some tokens have a first cut
@@ -65,11 +66,11 @@ record First (ps : List Placed) : Type 0 where
   shorter : length rest < length ps
 
 more_first : (p : Placed) {ps cut rest : List Placed} → is_semicolon p.token ≡ false → ps ≡ cut ++ rest → IsFirstCut cut rest → length rest < length ps → First (p ∷ ps)
-more_first p {ps} {cut} {rest} e is (closed front q rest' none last) less = record {
-  cut = p ∷ front ++ q ∷ [];
+more_first p {ps} {cut} {rest} e is (closed prefix q rest' none last) less = record {
+  cut = p ∷ prefix ++ q ∷ [];
   rest = rest;
   is = ap (λ qs. p ∷ qs) is;
-  first = closed (p ∷ front) q rest (none_more p front e none) last;
+  first = closed (p ∷ prefix) q rest (none_more p prefix e none) last;
   shorter = omega arith;
 }
 more_first p {ps} {cut} {rest} e is (unclosed q qs none) less = record {
@@ -98,22 +99,22 @@ clear_semicolons [] = refl
 clear_semicolons (p ∷ ps) = ap (λ v. not (is_semicolon p.token) && v) (clear_semicolons ps)
 
 record Ends (us : List Token) (ps : List Placed) : Type 0 where
-  front : List Placed
+  prefix : List Placed
   last : Placed
-  is : ps ≡ front ++ last ∷ []
-  are : tokens_of front ≡ us
+  is : ps ≡ prefix ++ last ∷ []
+  are : tokens_of prefix ≡ us
   semicolon : is_semicolon last.token ≡ true
 
 ends_with : (us : List Token) (ps : List Placed) → tokens_of ps ≡ us ++ Symbol s.Semicolon ∷ [] → Ends us ps
 ends_with [] [] h = absurd cc
-ends_with [] (p ∷ []) h = let e : p.token ≡ Symbol s.Semicolon = cc in record { front = []; last = p; is = refl; are = refl; semicolon = ap is_semicolon e }
+ends_with [] (p ∷ []) h = let e : p.token ≡ Symbol s.Semicolon = cc in record { prefix = []; last = p; is = refl; are = refl; semicolon = ap is_semicolon e }
 ends_with [] (p ∷ q ∷ ps) h = absurd cc
 ends_with (u ∷ us) [] h = absurd cc
 ends_with (u ∷ us) (p ∷ ps) h =
     let e : p.token ≡ u = cc in
     let more : tokens_of ps ≡ us ++ Symbol s.Semicolon ∷ [] = cc in
     let f = ends_with us ps more in
-    record { front = p ∷ f.front; last = f.last; is = ap (λ qs. p ∷ qs) f.is; are = ap (λ t. t ∷ tokens_of f.front) e ∙ ap (λ ts. u ∷ ts) f.are; semicolon = f.semicolon }
+    record { prefix = p ∷ f.prefix; last = f.last; is = ap (λ qs. p ∷ qs) f.is; are = ap (λ t. t ∷ tokens_of f.prefix) e ∙ ap (λ ts. u ∷ ts) f.are; semicolon = f.semicolon }
 
 statement_tokens : {ts : List Token} {b : Body} → IsStatement ts b → (us : List Token) × (ts ≡ us ++ Symbol s.Semicolon ∷ []) × (clear us ≡ true)
 statement_tokens (st.define {a} {ts} d) = (Ident a ∷ Symbol s.Assign ∷ ts, refl, op-clear d)
@@ -123,7 +124,7 @@ statement_first : {cut : List Placed} {b : Body} → IsStatement (tokens_of cut)
 statement_first {cut} d rest =
     let (us, is, none) = statement_tokens d in
     let f = ends_with us cut is in
-    subst (λ ps. IsFirstCut ps rest) (sym f.is) (closed f.front f.last rest (clear_semicolons f.front ∙ ap clear f.are ∙ none) f.semicolon)
+    subst (λ ps. IsFirstCut ps rest) (sym f.is) (closed f.prefix f.last rest (clear_semicolons f.prefix ∙ ap clear f.are ∙ none) f.semicolon)
 
 -- a cut by itself
 abbrev answer : ℕ → List Placed → Bool → Option Body → Result Statement ParseFault

@@ -1,3 +1,5 @@
+-- What public clauses cite.
 pub mod Limits
 pub mod Script
+-- What private functions say of their answers.
 pub mod Parse

@@ -1,11 +1,13 @@
 -- The limits on the tokens of a script.
-use Rattle.std.specs.Prelude.{◌≡◌, ℕ, ◌≤◌, Bool, true, false, if◌then◌else◌, List, [], ◌∷◌, drop, filter, flat_map, count_by, Option, Some, None}
+use Rattle.std.specs.Prelude.{if◌then◌else◌, ◌≡◌, ℕ, ◌≤◌, Bool, true, false, List, [], ◌∷◌, drop, filter, flat_map, count_by, Option, Some, None}
+use Rattle.nova_pig_parse.specs.declared.limit.TheConstants.{MAX_SEMICOLONS, MAX_ASSIGNS}
+use Rattle.nova_value.specs.Lists.{onto_first}
 use Rattle.nova_pig_tree.specs.declared.token.Token.{Token}
 use Rattle.nova_pig_tree.specs.declared.token.Token.TheVariants.{Word, Symbol}
 use Rattle.nova_pig_tree.specs.declared.token.Word.TheVariants as w
 use Rattle.nova_pig_tree.specs.declared.token.Symbol.TheVariants as s
 use Rattle.nova_pig_tree.specs.declared.token.Placed.{Placed}
-pub use Rattle.nova_pig_statement.specs.Statement.{is_semicolon}
+pub use Rattle.nova_pig_grammar.specs.Statement.{is_semicolon}
 
 abbrev pub is_assign : Token → Bool
 is_assign (Symbol s.Assign) = true
@@ -37,14 +39,10 @@ nests (Word w.And) = true
 nests (Word w.Or) = true
 nests _ = false
 
-abbrev pub onto_piece : Placed → List (List Placed) → List (List Placed)
-onto_piece p [] = (p ∷ []) ∷ []
-onto_piece p (piece ∷ more) = (p ∷ piece) ∷ more
-
 -- the longest runs without `,` and `;`
 unfoldable pub pieces : List Placed → List (List Placed)
 pieces [] = [] ∷ []
-pieces (p ∷ ps) = if parts p.token then [] ∷ pieces ps else onto_piece p (pieces ps)
+pieces (p ∷ ps) = if parts p.token then [] ∷ pieces ps else onto_first p (pieces ps)
 
 -- the tokens that nest, but for so many
 abbrev pub beyond : ℕ → List Placed → List Placed
@@ -60,6 +58,6 @@ first_deep ps = first_start (flat_map (beyond 64) (pieces ps))
 
 -- at most 257 `;`, at most 64 tokens that nest in a piece, at most 256 `=`
 pub record IsWithin (ps : List Placed) : Type 0 where
-  pub few_semicolons : semicolons ps ≤ 257
+  pub few_semicolons : semicolons ps ≤ MAX_SEMICOLONS
   pub shallow : first_deep ps ≡ None
-  pub few_assigns : assigns ps ≤ 256
+  pub few_assigns : assigns ps ≤ MAX_ASSIGNS

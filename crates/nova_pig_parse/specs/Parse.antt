@@ -1,5 +1,8 @@
 -- The script of a text as it is read: the tokens, the limits on them, and each cut by itself.
-use Rattle.std.specs.Prelude.{◌≡◌, ℕ, ◌+◌, Bool, true, false, not, ◌&&◌, if◌then◌else◌, ◌==◌, nat_lt, List, [], ◌∷◌, ◌++◌, length, Option, Some, None, Result, Ok, Err}
+use Rattle.std.specs.Prelude.{if◌then◌else◌, ◌≡◌, ℕ, ◌+◌, Bool, true, false, not, ◌&&◌, ◌==◌, nat_lt, List, [], ◌∷◌, ◌++◌, length, Option, Some, None, Result, Ok, Err}
+use Rattle.nova_pig_scan.specs.declared.TheConstants.{MAX_SCRIPT_BYTES}
+use Rattle.nova_pig_parse.specs.declared.limit.TheConstants.{MAX_SEMICOLONS, MAX_ASSIGNS}
+use Rattle.nova_value.specs.Lists.{onto_first}
 use Rattle.nova_pig_tree.specs.declared.statement.Body.{Body}
 use Rattle.nova_pig_tree.specs.declared.statement.Body.TheVariants as body
 use Rattle.nova_pig_tree.specs.declared.statement.Statement.{Statement}
@@ -10,7 +13,7 @@ use Rattle.nova_pig_scan.specs.declared.scan.TextFault.TheVariants as scan
 use Rattle.nova_pig_scan.specs.Tokens.{tokens, Outcome}
 use Rattle.nova_pig_parse.specs.Limits.{is_semicolon, semicolons, assigns, first_deep, parts, nests}
 use Rattle.nova_pig_parse.specs.Script.{tokens_of, place, spanned}
-use Rattle.nova_pig_statement.specs.Reads.{body_of}
+use Rattle.nova_pig_grammar.specs.StatementReading.{body_of}
 use Rattle.nova_pig_parse.specs.declared.text.ParseFault.{ParseFault}
 use Rattle.nova_pig_parse.specs.declared.text.ParseFault.TheVariants as fault
 
@@ -28,12 +31,8 @@ deep_or None other = other
 -- more than 257 `;`, the first place that is too deep, more than 256 `=`
 abbrev pub limit : List Placed → Option ParseFault
 limit ps =
-    if nat_lt 257 (semicolons ps) then Some fault.TooLong else
-    deep_or (first_deep ps) (if nat_lt 256 (assigns ps) then Some fault.TooLong else None)
-
-abbrev pub onto_first : Placed → List (List Placed) → List (List Placed)
-onto_first p [] = (p ∷ []) ∷ []
-onto_first p (cut ∷ cuts) = (p ∷ cut) ∷ cuts
+    if nat_lt MAX_SEMICOLONS (semicolons ps) then Some fault.TooLong else
+    deep_or (first_deep ps) (if nat_lt MAX_ASSIGNS (assigns ps) then Some fault.TooLong else None)
 
 -- the tokens cut after each `;`; tokens after the last one are a last cut without one
 unfoldable pub cuts : List Placed → List (List Placed)
@@ -79,21 +78,21 @@ unless None read = read
 abbrev pub by_tokens : ℕ → Outcome → Statements
 by_tokens len (Err (scan.At cause.Token at)) = Err (fault.Token at)
 by_tokens len (Err (scan.At cause.NumberTooLarge at)) = Err (fault.NumberTooLarge at)
-by_tokens len (Err scan.Memory) = Err fault.NoMemory
+by_tokens len (Err scan.NoMemory) = Err fault.NoMemory
 by_tokens len (Ok ps) = unless (limit ps) (statements len (cuts ps))
 
 -- the script of a text, or its first fault in the order of the faults
 abbrev pub parse_of : List ℕ → Statements
-parse_of text = if nat_lt 65536 (length text) then Err fault.TooLong else by_tokens (length text) (tokens text)
+parse_of text = if nat_lt MAX_SCRIPT_BYTES (length text) then Err fault.TooLong else by_tokens (length text) (tokens text)
 
-abbrev pub Gives : {A : Type 0} → Result A ParseFault → Result A ParseFault → Type 0
-Gives spec (Err fault.NoMemory) = Unit {0}
-Gives spec result = result ≡ spec
+abbrev pub IsParseOf : {A : Type 0} → Result A ParseFault → Result A ParseFault → Type 0
+IsParseOf spec (Err fault.NoMemory) = Unit {0}
+IsParseOf spec result = result ≡ spec
 
 abbrev pub IsSameFault : TextFault → ParseFault → Type 0
 IsSameFault (scan.At cause.Token at) f = f ≡ fault.Token at
 IsSameFault (scan.At cause.NumberTooLarge at) f = f ≡ fault.NumberTooLarge at
-IsSameFault scan.Memory f = f ≡ fault.NoMemory
+IsSameFault scan.NoMemory f = f ≡ fault.NoMemory
 
 -- the first cut and what follows it
 abbrev pub IsSplit : List Placed → List Placed → List Placed → Type 0
@@ -105,5 +104,5 @@ before_semicolon [] = 0
 before_semicolon (p ∷ ps) = if is_semicolon p.token then 0 else 1 + before_semicolon ps
 
 abbrev pub ahead : List Statement → Statements → Statements
-ahead front (Ok more) = Ok (front ++ more)
-ahead front (Err f) = Err f
+ahead prefix (Ok more) = Ok (prefix ++ more)
+ahead prefix (Err f) = Err f

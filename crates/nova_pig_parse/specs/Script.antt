@@ -1,6 +1,8 @@
 -- The grammar of scripts, and the faults of a text in their order, as relations.
 use Rattle.std.specs.List.{list_all}
-use Rattle.std.specs.Prelude.{◌≡◌, ◌⊎◌, ℕ, ◌<◌, ◌≤◌, true, not, if◌then◌else◌, nat_lt, List, [], ◌∷◌, ◌++◌, length, map, Some, None}
+use Rattle.std.specs.Prelude.{if◌then◌else◌, ◌≡◌, ◌⊎◌, ℕ, ◌<◌, ◌≤◌, true, not, nat_lt, List, [], ◌∷◌, ◌++◌, length, map, Some, None}
+use Rattle.nova_pig_scan.specs.declared.TheConstants.{MAX_SCRIPT_BYTES}
+use Rattle.nova_pig_parse.specs.declared.limit.TheConstants.{MAX_SEMICOLONS, MAX_ASSIGNS}
 use Rattle.nova_pig_tree.specs.declared.statement.Body.{Body}
 use Rattle.nova_pig_tree.specs.declared.statement.Body.TheVariants as body
 use Rattle.nova_pig_tree.specs.declared.statement.Op.{Op}
@@ -12,7 +14,7 @@ use Rattle.nova_pig_scan.specs.Lexemes.{Text}
 use Rattle.nova_pig_scan.specs.Text.{IsTokens, FailsAt}
 use Rattle.nova_pig_parse.specs.declared.text.ParseFault.{ParseFault}
 use Rattle.nova_pig_parse.specs.declared.text.ParseFault.TheVariants as fault
-use Rattle.nova_pig_statement.specs.Statement.{IsStatement}
+use Rattle.nova_pig_grammar.specs.Statement.{IsStatement}
 use Rattle.nova_pig_parse.specs.Limits.{is_semicolon, semicolons, assigns, first_deep, IsWithin}
 
 -- tokens without their places
@@ -41,7 +43,7 @@ HasNoSemicolon ps = list_all (λ p. not (is_semicolon p.token)) ps ≡ true
 
 -- the first cut of some tokens, and what follows it: it ends after the first `;`, or is all where there is none
 pub data IsFirstCut : List Placed → List Placed → Type 0 where
-  closed : (front : List Placed) (p : Placed) (rest : List Placed) → HasNoSemicolon front → is_semicolon p.token ≡ true → IsFirstCut (front ++ p ∷ []) rest
+  closed : (prefix : List Placed) (p : Placed) (rest : List Placed) → HasNoSemicolon prefix → is_semicolon p.token ≡ true → IsFirstCut (prefix ++ p ∷ []) rest
   unclosed : (p : Placed) (ps : List Placed) → HasNoSemicolon (p ∷ ps) → IsFirstCut (p ∷ ps) []
 
 -- the place of a cut that is no statement: its first token, or the text's length where it has no `;`
@@ -61,7 +63,7 @@ pub data SyntaxAt (len : ℕ) : List Placed → ℕ → Type 0 where
 
 -- a text of at most 65,536 bytes is a script with these statements, and no limit is passed
 pub record IsScriptOf (text : Text) (xs : List Statement) : Type 0 where
-  pub short : length text ≤ 65536
+  pub short : length text ≤ MAX_SCRIPT_BYTES
   pub tokens : List Placed
   pub lexed : IsTokens 0 text tokens
   pub within : IsWithin tokens
@@ -69,15 +71,15 @@ pub record IsScriptOf (text : Text) (xs : List Statement) : Type 0 where
 
 -- the faults of a text: each where those before it aren't
 pub data IsFaultOf : Text → ParseFault → Type 0 where
-  long : {text : Text} → 65536 < length text → IsFaultOf text fault.TooLong
-  token : {text : Text} {at : ℕ} → length text ≤ 65536 → FailsAt 0 text cause.Token at → IsFaultOf text (fault.Token at)
-  number : {text : Text} {at : ℕ} → length text ≤ 65536 → FailsAt 0 text cause.NumberTooLarge at → IsFaultOf text (fault.NumberTooLarge at)
-  many_semicolons : {text : Text} {ps : List Placed} → length text ≤ 65536 → IsTokens 0 text ps → 257 < semicolons ps → IsFaultOf text fault.TooLong
-  deep : {text : Text} {ps : List Placed} {at : ℕ} → length text ≤ 65536 → IsTokens 0 text ps → semicolons ps ≤ 257 → first_deep ps ≡ Some at
+  long : {text : Text} → MAX_SCRIPT_BYTES < length text → IsFaultOf text fault.TooLong
+  token : {text : Text} {at : ℕ} → length text ≤ MAX_SCRIPT_BYTES → FailsAt 0 text cause.Token at → IsFaultOf text (fault.Token at)
+  number : {text : Text} {at : ℕ} → length text ≤ MAX_SCRIPT_BYTES → FailsAt 0 text cause.NumberTooLarge at → IsFaultOf text (fault.NumberTooLarge at)
+  many_semicolons : {text : Text} {ps : List Placed} → length text ≤ MAX_SCRIPT_BYTES → IsTokens 0 text ps → MAX_SEMICOLONS < semicolons ps → IsFaultOf text fault.TooLong
+  deep : {text : Text} {ps : List Placed} {at : ℕ} → length text ≤ MAX_SCRIPT_BYTES → IsTokens 0 text ps → semicolons ps ≤ MAX_SEMICOLONS → first_deep ps ≡ Some at
       → IsFaultOf text (fault.TooDeep at)
-  many_assigns : {text : Text} {ps : List Placed} → length text ≤ 65536 → IsTokens 0 text ps → semicolons ps ≤ 257 → first_deep ps ≡ None → 256 < assigns ps
+  many_assigns : {text : Text} {ps : List Placed} → length text ≤ MAX_SCRIPT_BYTES → IsTokens 0 text ps → semicolons ps ≤ MAX_SEMICOLONS → first_deep ps ≡ None → MAX_ASSIGNS < assigns ps
       → IsFaultOf text fault.TooLong
-  syntax : {text : Text} {ps : List Placed} {at : ℕ} → length text ≤ 65536 → IsTokens 0 text ps → IsWithin ps → SyntaxAt (length text) ps at
+  syntax : {text : Text} {ps : List Placed} {at : ℕ} → length text ≤ MAX_SCRIPT_BYTES → IsTokens 0 text ps → IsWithin ps → SyntaxAt (length text) ps at
       → IsFaultOf text (fault.Syntax at)
 
 -- a text is one script, or has one first fault, and not both

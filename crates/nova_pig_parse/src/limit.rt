@@ -7,6 +7,12 @@ ghost use Rattle.nova_pig_parse.specs.Parse as spec;
 use crate::text::ParseFault;
 use nova_pig_tree::{Placed, Symbol, Token, Word};
 
+/// The most `;` of a script: one for each definition, and one for the STORE.
+const MAX_SEMICOLONS: usize = 257;
+
+/// The most `=` of a script: one for each alias.
+const MAX_ASSIGNS: usize = 256;
+
 /// Whether the token is `;`.
 pub fn is_semicolon(token: &Token) -> bool
     ensures { result ≡ limits.is_semicolon token.now }
@@ -84,13 +90,13 @@ fn count_assigns(tokens: &[Placed]) -> usize
 pub fn limit_of(tokens: &[Placed]) -> Option<ParseFault>
     ensures { result ≡ spec.limit tokens.now }
 {
-    if count_semicolons(tokens) > 257 {
+    if count_semicolons(tokens) > MAX_SEMICOLONS {
         return Some(ParseFault::TooLong);
     }
     if let Some(at) = too_deep(tokens) {
         return Some(ParseFault::TooDeep { at });
     }
-    if count_assigns(tokens) > 256 {
+    if count_assigns(tokens) > MAX_ASSIGNS {
         Some(ParseFault::TooLong)
     } else {
         None

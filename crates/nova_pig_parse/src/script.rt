@@ -6,8 +6,7 @@ ghost use Rattle.nova_pig_parse.specs.Parse as spec;
 
 use crate::limit::{count_semicolons, is_semicolon};
 use crate::text::ParseFault;
-use nova_pig_expr::Fault;
-use nova_pig_statement::cut_body;
+use nova_pig_grammar::{Fault, cut_body};
 use nova_pig_tree::{Body, Placed, Statement};
 use sqlite_items::Items;
 use std::alloc::Global;
@@ -112,7 +111,7 @@ fn statement_of(
     is_last: bool,
     len: u64,
 ) -> Result<Statement, ParseFault>
-    ensures { spec.Gives (spec.read_cut len is_last cut.now) result }
+    ensures { spec.IsParseOf (spec.read_cut len is_last cut.now) result }
 {
     match cut_body(alloc, cut) {
         Ok(body) => {
@@ -127,7 +126,7 @@ fn statement_of(
         Err(Fault::Syntax) => Err(ParseFault::Syntax {
             at: place(cut, len),
         }),
-        Err(Fault::Memory) => Err(ParseFault::NoMemory),
+        Err(Fault::NoMemory) => Err(ParseFault::NoMemory),
     }
 }
 
@@ -137,7 +136,7 @@ pub fn statements_of(
     tokens: &[Placed],
     len: u64,
 ) -> Result<Items<Statement>, ParseFault>
-    ensures { spec.Gives (spec.statements len (spec.cuts tokens.now)) result }
+    ensures { spec.IsParseOf (spec.statements len (spec.cuts tokens.now)) result }
 {
     let mut out = Items::new(alloc);
     let mut rest = tokens;

@@ -8,7 +8,7 @@ ghost use Rattle.nova_pig_parse.specs.Parse as spec;
 
 use crate::limit::limit_of;
 use crate::script::statements_of;
-use nova_pig_scan::{Cause, TextFault, scan_text};
+use nova_pig_scan::{Cause, MAX_SCRIPT_BYTES, TextFault, scan_text};
 use nova_pig_tree::Script;
 use std::alloc::{AllocError, Global};
 use thiserror::Error;
@@ -32,7 +32,7 @@ pub enum ParseFault {
     /// The number or position that begins there is above 9223372036854775807.
     #[error("the number at {at} is too large")]
     NumberTooLarge { at: u64 },
-    /// There was no memory for the tree.
+    /// Out of memory.
     #[error("out of memory")]
     NoMemory,
 }
@@ -55,15 +55,15 @@ fn fault_of(fault: TextFault) -> ParseFault
     match fault {
         TextFault::At(Cause::Token, at) => ParseFault::Token { at },
         TextFault::At(Cause::NumberTooLarge, at) => ParseFault::NumberTooLarge { at },
-        TextFault::Memory => ParseFault::NoMemory,
+        TextFault::NoMemory => ParseFault::NoMemory,
     }
 }
 
 /// The script that the text is, or its first fault.
 fn script_of(alloc: Global, text: &str) -> Result<Script, ParseFault>
-    ensures { spec.Gives (spec.parse_of text.now) result }
+    ensures { spec.IsParseOf (spec.parse_of text.now) result }
 {
-    if text.len() > 65_536 {
+    if text.len() > MAX_SCRIPT_BYTES {
         return Err(ParseFault::TooLong);
     }
     match scan_text(alloc, text) {
@@ -81,11 +81,11 @@ fn script_of(alloc: Global, text: &str) -> Result<Script, ParseFault>
 pub fn parse(alloc: Global, text: &str) -> Result<Script, ParseFault>
     // What is answered is a script by the grammar, within the limits.
     ensures script { IfOk result (λ xs. IsScriptOf text.now xs) }
-    // Each script is answered, unless memory fails.
+    // Each script is answered, unless memory runs out.
     ensures read { (xs : List Statement) → IsScriptOf text.now xs → MatchResult result (λ found. found ≡ xs) (λ e. e ≡ ParseFault.NoMemory) }
     // A fault that is answered is the text's.
     ensures fault { IfErr result (λ f. (f ≡ ParseFault.NoMemory → ⊥) → IsFaultOf text.now f) }
-    // The text's fault is answered, unless memory fails.
+    // The text's fault is answered, unless memory runs out.
     ensures only { (f : ParseFault) → IsFaultOf text.now f → MatchResult result (λ _. ⊥) (λ e. (e ≡ ParseFault.NoMemory → ⊥) → e ≡ f) }
 {
     script_of(alloc, text)

@@ -8,10 +8,10 @@ use Rattle.nova_pig_scan.specs.declared.scan.Cause.TheVariants as cause
 use Rattle.nova_pig_scan.specs.declared.piece.Piece.{Piece}
 use Rattle.nova_pig_scan.specs.declared.piece.Piece.TheVariants.{End, Skip, Take, TooLarge, Bad}
 use Rattle.nova_pig_tree.specs.declared.token.Placed.{Placed}
-use Rattle.nova_pig_scan.specs.declared.scan.TextFault.TheVariants.{At, Memory}
+use Rattle.nova_pig_scan.specs.declared.scan.TextFault.TheVariants.{At, NoMemory}
 use Rattle.nova_pig_scan.specs.Lexemes.{Text, Lexeme, IsLexeme}
 use Rattle.nova_pig_scan.specs.Lexemes as lexeme
-use Rattle.nova_pig_scan.specs.Tokens.{Outcome, piece, onto, scan, tokens, Gives, next, Within}
+use Rattle.nova_pig_scan.specs.Tokens.{Outcome, piece, onto, scan, tokens, AreTokensOf, next, Within}
 use Rattle.nova_pig_scan.specs.Text.{IsLongest, HasNone, placed, IsTokens, end, gap, token, FailsAt, none, large, after_gap, after_token, Reads, OneLexeme, TextsAreSettled}
 use Rattle.nova_pig_scan.proofs.Turns.{scan_step, piece-within, not_end}
 use Rattle.nova_pig_scan.proofs.Fits.{reach, piece_of, Fits, fits}
@@ -21,21 +21,21 @@ use Rattle.nova_pig_scan.proofs.Formed.{Formed, formed}
 reach-longest : (us rest : Text) → IsLongest us rest → reach (piece (us ++ rest)) ≤ length us
 reach-longest us rest longest = by (piece (us ++ rest)) (formed (us ++ rest)) (piece-within (us ++ rest))
   where
-    front : (n : ℕ) (x : Lexeme) → n ≤ length (us ++ rest) → IsLexeme (take n (us ++ rest)) x → n ≤ length us
-    front n x room h =
+    prefix : (n : ℕ) (x : Lexeme) → n ≤ length (us ++ rest) → IsLexeme (take n (us ++ rest)) x → n ≤ length us
+    prefix n x room h =
         let shorter = longest (take n (us ++ rest)) (drop n (us ++ rest)) x (take-append-drop n (us ++ rest)) h in
         let len = length-take-le n (us ++ rest) room in
         omega arith
 
     by : (q : Piece) → Formed (us ++ rest) q → Within q (length (us ++ rest)) → reach q ≤ length us
     by End h w = omega arith
-    by (Skip n) h w = front n lexeme.Gap w.1 h
-    by (Take t n) h w = front n (lexeme.Is t) w.1 h
-    by (TooLarge n) h w = front n lexeme.TooLarge w.1 h
+    by (Skip n) h w = prefix n lexeme.Gap w.1 h
+    by (Take t n) h w = prefix n (lexeme.Is t) w.1 h
+    by (TooLarge n) h w = prefix n lexeme.TooLarge w.1 h
     by Bad h w = omega arith
 
-front_is : {us : Text} {x : Lexeme} → IsLexeme us x → (rest : Text) → IsLongest us rest → piece (us ++ rest) ≡ piece_of x (length us)
-front_is {us} {x} h rest longest =
+first_is : {us : Text} {x : Lexeme} → IsLexeme us x → (rest : Text) → IsLongest us rest → piece (us ++ rest) ≡ piece_of x (length us)
+first_is {us} {x} h rest longest =
     let f : Fits us x (piece (us ++ rest)) = fits h rest in
     let shorter = reach-longest us rest longest in
     let within = f.within in
@@ -52,14 +52,14 @@ piece-longest text n e room vs more x same h =
 none_bad : (text : Text) → (text ≡ [] → ⊥) → HasNone text → piece text ≡ Bad
 none_bad text some unlike = by (piece text) refl (formed text)
   where
-    front : (n : ℕ) (x : Lexeme) → IsLexeme (take n text) x → ⊥
-    front n x h = unlike (take n text) (drop n text) x (take-append-drop n text) h
+    prefix : (n : ℕ) (x : Lexeme) → IsLexeme (take n text) x → ⊥
+    prefix n x h = unlike (take n text) (drop n text) x (take-append-drop n text) h
 
     by : (q : Piece) → piece text ≡ q → Formed text q → q ≡ Bad
     by End e h = absurd (some (not_end text e))
-    by (Skip n) e h = absurd (front n lexeme.Gap h)
-    by (Take t n) e h = absurd (front n (lexeme.Is t) h)
-    by (TooLarge n) e h = absurd (front n lexeme.TooLarge h)
+    by (Skip n) e h = absurd (prefix n lexeme.Gap h)
+    by (Take t n) e h = absurd (prefix n (lexeme.Is t) h)
+    by (TooLarge n) e h = absurd (prefix n lexeme.TooLarge h)
     by Bad e h = refl
 
 bad_none : (text : Text) → piece text ≡ Bad → HasNone text
@@ -84,18 +84,18 @@ pub all_read : {at : ℕ} {text : Text} {ps : List Placed} → IsTokens at text 
 unfolding scan
 all_read end = refl
 all_read {at} (gap {us} {rest} l longest h) =
-    scan_step at (us ++ rest) ∙ ap (λ p. next p at (us ++ rest)) (front_is l rest longest) ∙ ap (scan 0 (at + length us)) (drop-append_seam us rest) ∙ all_read h
+    scan_step at (us ++ rest) ∙ ap (λ p. next p at (us ++ rest)) (first_is l rest longest) ∙ ap (scan 0 (at + length us)) (drop-append_seam us rest) ∙ all_read h
 all_read {at} (token {us} {rest} t l longest h) =
-    scan_step at (us ++ rest) ∙ ap (λ p. next p at (us ++ rest)) (front_is l rest longest)
+    scan_step at (us ++ rest) ∙ ap (λ p. next p at (us ++ rest)) (first_is l rest longest)
     ∙ ap (λ ts. onto (placed t at (length us)) (scan 0 (at + length us) ts)) (drop-append_seam us rest) ∙ ap (onto (placed t at (length us))) (all_read h)
 
 pub fault_read : {at : ℕ} {text : Text} {c : Cause} {place : ℕ} → FailsAt at text c place → scan 0 at text ≡ Err (At c place)
 fault_read {at} {text} (none some no_lexeme) = scan_step at text ∙ ap (λ p. next p at text) (none_bad text some no_lexeme)
-fault_read {at} (large {us} rest l longest) = scan_step at (us ++ rest) ∙ ap (λ p. next p at (us ++ rest)) (front_is l rest longest)
+fault_read {at} (large {us} rest l longest) = scan_step at (us ++ rest) ∙ ap (λ p. next p at (us ++ rest)) (first_is l rest longest)
 fault_read {at} (after_gap {us} {rest} l longest h) =
-    scan_step at (us ++ rest) ∙ ap (λ p. next p at (us ++ rest)) (front_is l rest longest) ∙ ap (scan 0 (at + length us)) (drop-append_seam us rest) ∙ fault_read h
+    scan_step at (us ++ rest) ∙ ap (λ p. next p at (us ++ rest)) (first_is l rest longest) ∙ ap (scan 0 (at + length us)) (drop-append_seam us rest) ∙ fault_read h
 fault_read {at} (after_token {us} {rest} t l longest h) =
-    scan_step at (us ++ rest) ∙ ap (λ p. next p at (us ++ rest)) (front_is l rest longest)
+    scan_step at (us ++ rest) ∙ ap (λ p. next p at (us ++ rest)) (first_is l rest longest)
     ∙ ap (λ ts. onto (placed t at (length us)) (scan 0 (at + length us) ts)) (drop-append_seam us rest) ∙ ap (onto (placed t at (length us))) (fault_read h)
 
 -- what is read is what a relation says: a token or a gap in front
@@ -113,7 +113,7 @@ reads_onto at text t n e room l o h = by o (subst (λ m. Reads (at + m) (drop n 
     by (Ok ps) h = subst (λ ts. IsTokens at ts (placed t at n ∷ ps)) (take-append-drop n text)
         (subst (λ m. IsTokens at (take n text ++ drop n text) (placed t at m ∷ ps)) len (token t l longest h))
     by (Err (At c place)) h = subst (λ ts. FailsAt at ts c place) (take-append-drop n text) (after_token t l longest h)
-    by (Err Memory) h = h
+    by (Err NoMemory) h = h
 
 reads_later : (at : ℕ) (text : Text) (n : ℕ) → piece text ≡ Skip n → n ≤ length text → IsLexeme (take n text) lexeme.Gap
     → (o : Outcome) → Reads (at + n) (drop n text) o → Reads at text o
@@ -125,7 +125,7 @@ reads_later at text n e room l o h = by o (subst (λ m. Reads (at + m) (drop n t
     by : (o : Outcome) → Reads (at + length (take n text)) (drop n text) o → Reads at text o
     by (Ok ps) h = subst (λ ts. IsTokens at ts ps) (take-append-drop n text) (gap l longest h)
     by (Err (At c place)) h = subst (λ ts. FailsAt at ts c place) (take-append-drop n text) (after_gap l longest h)
-    by (Err Memory) h = h
+    by (Err NoMemory) h = h
 
 reads_piece : (fuel at : ℕ) (text : Text) → length text ≤ fuel → (p : Piece) → piece text ≡ p → Within p (length text) → Formed text p
     → ((at : ℕ) (us : Text) → length us < fuel → Reads at us (scan 0 at us)) → Reads at text (next p at text)
@@ -188,7 +188,7 @@ settled text = record {
     either : (o : Outcome) → Reads 0 text o → ((ps : List Placed) × IsTokens 0 text ps) ⊎ ((c : Cause) × (place : ℕ) × FailsAt 0 text c place)
     either (Ok ps) h = inl (ps, h)
     either (Err (At c place)) h = inr (c, place, h)
-    either (Err Memory) h = absurd h
+    either (Err NoMemory) h = absurd h
 
     lists : (ps qs : List Placed) (o : Outcome) → o ≡ Ok ps → o ≡ Ok qs → ps ≡ qs
     lists ps qs o e f = cc
@@ -199,22 +199,22 @@ settled text = record {
     clash : (ps : List Placed) (c : Cause) (place : ℕ) (o : Outcome) → o ≡ Ok ps → o ≡ Err (At c place) → ⊥
     clash ps c place o e f = cc
 
-pub ok_found : (text : Text) (r : Outcome) → Gives (tokens text) r → IfOk r (λ ps. IsTokens 0 text ps)
+pub ok_found : (text : Text) (r : Outcome) → AreTokensOf (tokens text) r → IfOk r (λ ps. IsTokens 0 text ps)
 ok_found text (Ok ps) e = subst (Reads 0 text) (sym e) (reads 0 text)
 ok_found text (Err f) e = tt
 
-pub ok_complete : (text : Text) (r : Outcome) → Gives (tokens text) r → (ps : List Placed) → IsTokens 0 text ps → MatchResult r (λ found. found ≡ ps) (λ e. e ≡ Memory)
+pub ok_complete : (text : Text) (r : Outcome) → AreTokensOf (tokens text) r → (ps : List Placed) → IsTokens 0 text ps → MatchResult r (λ found. found ≡ ps) (λ e. e ≡ NoMemory)
 ok_complete text (Ok qs) e ps h = let d = e ∙ all_read h in cc
 ok_complete text (Err (At c n)) e ps h = let d = e ∙ all_read h in absurd cc
-ok_complete text (Err Memory) e ps h = refl
+ok_complete text (Err NoMemory) e ps h = refl
 
-pub err_found : (text : Text) (r : Outcome) → Gives (tokens text) r
-    → MatchResult r (λ _. Unit {0}) (λ e. (e ≡ Memory → ⊥) → (c : Cause) × (place : ℕ) × (e ≡ At c place) × FailsAt 0 text c place)
+pub err_found : (text : Text) (r : Outcome) → AreTokensOf (tokens text) r
+    → MatchResult r (λ _. Unit {0}) (λ e. (e ≡ NoMemory → ⊥) → (c : Cause) × (place : ℕ) × (e ≡ At c place) × FailsAt 0 text c place)
 err_found text (Ok ps) e = tt
 err_found text (Err (At c n)) e = λ h. (c, n, refl, subst (Reads 0 text) (sym e) (reads 0 text))
-err_found text (Err Memory) e = λ h. absurd (h refl)
+err_found text (Err NoMemory) e = λ h. absurd (h refl)
 
-pub err_complete : (text : Text) (r : Outcome) → Gives (tokens text) r → (c : Cause) (place : ℕ) → FailsAt 0 text c place → MatchResult r (λ _. ⊥) (λ e. (e ≡ Memory → ⊥) → e ≡ At c place)
+pub err_complete : (text : Text) (r : Outcome) → AreTokensOf (tokens text) r → (c : Cause) (place : ℕ) → FailsAt 0 text c place → MatchResult r (λ _. ⊥) (λ e. (e ≡ NoMemory → ⊥) → e ≡ At c place)
 err_complete text (Ok ps) e c place h = let d = e ∙ fault_read h in absurd cc
 err_complete text (Err (At b n)) e c place h = λ _. let d = e ∙ fault_read h in cc
-err_complete text (Err Memory) e c place h = λ k. absurd (k refl)
+err_complete text (Err NoMemory) e c place h = λ k. absurd (k refl)

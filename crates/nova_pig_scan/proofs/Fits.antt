@@ -1,10 +1,12 @@
 -- What a lexeme in front of a text is, is the piece there, or a part of a longer one.
 use Rattle.std.proofs.Common.{◌≡◌, ℕ, ◌+◌, ◌<◌, ◌≤◌, Bool, true, false, [], ◌∷◌, ◌++◌, length, take, drop, Option, Some, refl, ap, sym, subst, ◌∙◌, arith, min, pos, length-append, append_assoc}
+use Rattle.std.proofs.lemmas.Bool.{and_parts, and_right, not-true}
 use Rattle.std.proofs.lemmas.Bool.Decides.{nat_tests}
 use Rattle.std.proofs.Math.Seq.{take-append_seam, drop-append_seam}
 use Rattle.std.specs.Prelude.{if◌then◌else◌, ◌&&◌, ◌||◌, ◌==◌, not, nat_lt}
 use Rattle.std.specs.List.{list_all}
 use Rattle.std.specs.Char.{is_ascii_alphabetic, is_ascii_digit}
+use Rattle.nova_pig_scan.specs.declared.lex.TheConstants.{TOO_LARGE}
 use Rattle.nova_pig_tree.specs.declared.expression.CompareOp.TheVariants as c
 use Rattle.nova_pig_tree.specs.declared.token.Symbol.{Symbol}
 use Rattle.nova_pig_tree.specs.declared.token.Symbol.TheVariants as s
@@ -17,7 +19,7 @@ use Rattle.nova_pig_scan.specs.declared.piece.Piece.TheVariants as p
 use Rattle.nova_pig_scan.specs.Lexemes.{Text, is_blank, is_newline, is_word, begins, is_unclosed, IsName, IsDigits, value, sign, is_plain, Spells, nothing, plain, escape, Lexeme, Gap, Is, TooLarge, number_of, position_of, IsLexeme, blank, line_comment, block_comment, identifier, keyword, group, number as is_number, long_number, position as is_position, literal as is_literal, symbol as is_symbol}
 use Rattle.nova_pig_scan.specs.Lex.{class_of, line_len, block, two_more, word_len, digit_len, capped, literal, literal_by, with_byte, further, step_of}
 use Rattle.nova_pig_scan.specs.Tokens.{piece, piece_by, dash, numeral, quoted, word_token, comment, symbol_piece}
-use Rattle.nova_pig_scan.proofs.RunLengths.{and_left, and_right, twice, run_within, run_stops}
+use Rattle.nova_pig_scan.proofs.RunLengths.{twice, run_within, run_stops}
 use Rattle.nova_pig_scan.proofs.Words.{group_token, keyword_token, name_token}
 
 -- how many bytes a piece takes
@@ -70,19 +72,11 @@ block_found : (us rest : Text) → is_unclosed us ≡ true → block (us ++ 42 �
 unfolding block
 block_found [] rest h = refl
 block_found (b ∷ us) rest h =
-    ap (λ t. if t then Some 2 else two_more (block (us ++ 42 ∷ 47 ∷ rest))) (unclosed us (and_left _ _ h)) ∙ ap two_more (block_found us rest (and_right _ _ h)) ∙ ap Some (omega arith)
+    ap (λ t. if t then Some 2 else two_more (block (us ++ 42 ∷ 47 ∷ rest))) (unclosed us ((and_parts _ _ h).0)) ∙ ap two_more (block_found us rest ((and_parts _ _ h).1)) ∙ ap Some (omega arith)
   where
-    untrue : (t : Bool) → not t ≡ true → t ≡ false
-    untrue true e = absurd cc
-    untrue false e = refl
-
-    no_slash : (t : Bool) → (t && false) ≡ false
-    no_slash true = refl
-    no_slash false = refl
-
     unclosed : (us : Text) → not (b == 42 && begins 47 us) ≡ true → (b == 42 && begins 47 (us ++ 42 ∷ 47 ∷ rest)) ≡ false
-    unclosed [] e = no_slash (b == 42)
-    unclosed (d ∷ us) e = untrue _ e
+    unclosed [] e = and_right (b == 42) false refl
+    unclosed (d ∷ us) e = not-true _ e
 
 -- literals
 step_plain : (b : ℕ) (p : Option (Text × ℕ)) (q : Option (Text × ℕ)) → is_plain b ≡ true → literal_by (step_of false b) b p q ≡ with_byte b p
@@ -126,10 +120,10 @@ pushed true n tok = refl
 pushed false n tok = refl
 
 pub numeral_of : (us : Text) (n : ℕ) → numeral (capped us) n ≡ piece_of (number_of (value us)) n
-numeral_of us n = pushed (capped us == 9223372036854775808) n (t.Number (pos (capped us))) ∙ capped_by (value us) 9223372036854775808 (λ k. Is (t.Number (pos k))) n
+numeral_of us n = pushed (capped us == TOO_LARGE) n (t.Number (pos (capped us))) ∙ capped_by (value us) TOO_LARGE (λ k. Is (t.Number (pos k))) n
 
-pub place_of : (us : Text) (n : ℕ) → (if capped us == 9223372036854775808 then p.TooLarge n else p.Take (t.Position (capped us)) n) ≡ piece_of (position_of (value us)) n
-place_of us n = pushed (capped us == 9223372036854775808) n (t.Position (capped us)) ∙ capped_by (value us) 9223372036854775808 (λ k. Is (t.Position k)) n
+pub place_of : (us : Text) (n : ℕ) → (if capped us == TOO_LARGE then p.TooLarge n else p.Take (t.Position (capped us)) n) ≡ piece_of (position_of (value us)) n
+place_of us n = pushed (capped us == TOO_LARGE) n (t.Position (capped us)) ∙ capped_by (value us) TOO_LARGE (λ k. Is (t.Position k)) n
 
 -- names
 pub word_fits : (us : Text) (tok : Token) → IsName us → word_token us ≡ tok → (rest : Text) → Fits us (Is tok) (piece (us ++ rest))
@@ -152,7 +146,7 @@ number_if true us n x q at h e = more us x (q (n + 1)) (rw (at (n + 1)) (omega a
 number_if false us n x q at h e = record { within = rw (at n) h; exact = λ len. let l = len ∙ at n in ap q (sym l) ∙ e l (length us) }
 
 reach-numeral : (v n : ℕ) → reach (numeral v n) ≡ n
-reach-numeral v n = by (v == 9223372036854775808)
+reach-numeral v n = by (v == TOO_LARGE)
   where
     by : (c : Bool) → reach (if c then p.TooLarge n else p.Take (t.Number (pos v)) n) ≡ n
     by true = refl
@@ -161,9 +155,9 @@ reach-numeral v n = by (v == 9223372036854775808)
 pub number_fits : (us : Text) → IsDigits us → (rest : Text) → Fits us (number_of (value us)) (piece (us ++ rest))
 number_fits [] digits rest = absurd digits
 number_fits (b ∷ bs) digits rest =
-    subst (λ c. Fits (b ∷ bs) (number_of (value (b ∷ bs))) (piece_by c (b ∷ bs ++ rest) (bs ++ rest))) (sym (class_digit b (and_left (is_ascii_digit b) (list_all is_ascii_digit bs) digits)))
+    subst (λ c. Fits (b ∷ bs) (number_of (value (b ∷ bs))) (piece_by c (b ∷ bs ++ rest) (bs ++ rest))) (sym (class_digit b ((and_parts (is_ascii_digit b) (list_all is_ascii_digit bs) digits).0)))
     (let n : ℕ = digit_len (bs ++ rest) + 1 in
-    let long : length bs ≤ digit_len (bs ++ rest) = run_within (λ b. not (not (is_ascii_digit b))) bs rest (twice is_ascii_digit bs ∙ and_right (is_ascii_digit b) (list_all is_ascii_digit bs) digits) in
+    let long : length bs ≤ digit_len (bs ++ rest) = run_within (λ b. not (not (is_ascii_digit b))) bs rest (twice is_ascii_digit bs ∙ (and_parts (is_ascii_digit b) (list_all is_ascii_digit bs) digits).1) in
     let after : Text = drop n (b ∷ bs ++ rest) in
     number_if (begins 76 after || begins 108 after) (b ∷ bs) n (number_of (value (b ∷ bs))) (numeral (capped (take n (b ∷ bs ++ rest)))) (reach-numeral _) (omega arith)
     (λ len m. ap (λ k. numeral (capped (take k (b ∷ bs ++ rest))) m) (sym len) ∙ ap (λ us. numeral (capped us) m) (take-append_seam (b ∷ bs) rest) ∙ numeral_of (b ∷ bs) m))
@@ -176,7 +170,7 @@ pub long_fits : (us : Text) (c : ℕ) → IsDigits us → (c == 76 || c == 108) 
 long_fits [] c digits e rest = absurd digits
 long_fits (b ∷ bs) c digits e rest =
     exactly (b ∷ bs ++ c ∷ []) (number_of (value (b ∷ bs))) (piece (b ∷ bs ++ c ∷ rest))
-    (ap (λ k. piece_by k (b ∷ bs ++ c ∷ rest) (bs ++ c ∷ rest)) (class_digit b (and_left (is_ascii_digit b) (list_all is_ascii_digit bs) digits))
+    (ap (λ k. piece_by k (b ∷ bs ++ c ∷ rest) (bs ++ c ∷ rest)) (class_digit b ((and_parts (is_ascii_digit b) (list_all is_ascii_digit bs) digits).0))
     ∙ ap at run
     ∙ ap (λ us. numeral (capped us) (if begins 76 (drop (length (b ∷ bs)) (b ∷ bs ++ c ∷ rest)) || begins 108 (drop (length (b ∷ bs)) (b ∷ bs ++ c ∷ rest)) then length (b ∷ bs) + 1 else length (b ∷ bs))) (take-append_seam (b ∷ bs) (c ∷ rest))
     ∙ ap (λ after. numeral (capped (b ∷ bs)) (if begins 76 after || begins 108 after then length (b ∷ bs) + 1 else length (b ∷ bs))) (drop-append_seam (b ∷ bs) (c ∷ rest))
@@ -188,7 +182,7 @@ long_fits (b ∷ bs) c digits e rest =
     at n = numeral (capped (take n (b ∷ bs ++ c ∷ rest))) (if begins 76 (drop n (b ∷ bs ++ c ∷ rest)) || begins 108 (drop n (b ∷ bs ++ c ∷ rest)) then n + 1 else n)
 
     run : digit_len (bs ++ c ∷ rest) + 1 ≡ length (b ∷ bs)
-    run = let e = run_stops (λ b. not (not (is_ascii_digit b))) bs c rest (twice is_ascii_digit bs ∙ and_right (is_ascii_digit b) (list_all is_ascii_digit bs) digits) (ap (λ t. not (not t)) (suffix c e)) in omega arith
+    run = let e = run_stops (λ b. not (not (is_ascii_digit b))) bs c rest (twice is_ascii_digit bs ∙ (and_parts (is_ascii_digit b) (list_all is_ascii_digit bs) digits).1) (ap (λ t. not (not t)) (suffix c e)) in omega arith
 
 pub position_fits : (us : Text) → IsDigits us → (rest : Text) → Fits (36 ∷ us) (position_of (value us)) (piece (36 ∷ us ++ rest))
 position_fits [] digits rest = absurd digits
@@ -201,15 +195,15 @@ position_fits (b ∷ bs) digits rest =
     (record {
       within = rw (reach-at n) (omega arith);
       exact = λ len. let l : length us ≡ n = let l' = len ∙ reach-at n in omega arith in
-          ap at (sym l) ∙ ap (λ us. if capped us == 9223372036854775808 then p.TooLarge (length (b ∷ bs) + 1) else p.Take (t.Position (capped us)) (length (b ∷ bs) + 1)) (take-append_seam (b ∷ bs) rest)
+          ap at (sym l) ∙ ap (λ us. if capped us == TOO_LARGE then p.TooLarge (length (b ∷ bs) + 1) else p.Take (t.Position (capped us)) (length (b ∷ bs) + 1)) (take-append_seam (b ∷ bs) rest)
           ∙ place_of (b ∷ bs) (length (b ∷ bs) + 1) ∙ ap (piece_of (position_of (value (b ∷ bs)))) (omega arith);
     })
   where
     at : ℕ → Piece
-    at n = if capped (take n (b ∷ bs ++ rest)) == 9223372036854775808 then p.TooLarge (n + 1) else p.Take (t.Position (capped (take n (b ∷ bs ++ rest)))) (n + 1)
+    at n = if capped (take n (b ∷ bs ++ rest)) == TOO_LARGE then p.TooLarge (n + 1) else p.Take (t.Position (capped (take n (b ∷ bs ++ rest)))) (n + 1)
 
     reach-at : (n : ℕ) → reach (at n) ≡ n + 1
-    reach-at n = by (capped (take n (b ∷ bs ++ rest)) == 9223372036854775808)
+    reach-at n = by (capped (take n (b ∷ bs ++ rest)) == TOO_LARGE)
       where
         by : (c : Bool) → reach (if c then p.TooLarge (n + 1) else p.Take (t.Position (capped (take n (b ∷ bs ++ rest)))) (n + 1)) ≡ n + 1
         by true = refl

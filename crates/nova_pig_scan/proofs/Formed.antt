@@ -1,6 +1,6 @@
 -- The piece in front of a text is a lexeme.
 use Rattle.std.proofs.Common.{◌≡◌, ℕ, zero, suc, ◌+◌, Bool, true, false, [], ◌∷◌, ◌++◌, take, drop, Option, Some, None, refl, ap, sym, subst, ◌∙◌, arith, cond, take-add, MatchOption}
-use Rattle.std.proofs.lemmas.Bool.{eqb-true}
+use Rattle.std.proofs.lemmas.Bool.{eqb-true, and_parts, and_from}
 use Rattle.std.specs.Prelude.{if◌then◌else◌, ◌&&◌, ◌||◌, ◌==◌, not}
 use Rattle.std.specs.List.{list_all}
 use Rattle.std.specs.Char.{is_ascii_alphabetic, is_ascii_digit}
@@ -16,7 +16,7 @@ use Rattle.nova_pig_scan.specs.declared.piece.Piece.TheVariants as p
 use Rattle.nova_pig_scan.specs.Lexemes.{Text, is_blank, is_newline, is_word, begins, is_unclosed, IsDigits, value, sign, is_escaped, is_plain, Spells, nothing, plain, escape, Lexeme, Gap, Is, TooLarge, number_of, position_of, IsLexeme, blank, line_comment, block_comment, number as is_number, long_number, position as is_position, literal as is_literal, symbol as is_symbol}
 use Rattle.nova_pig_scan.specs.Lex.{class_of, line_len, block, two_more, word_len, digit_len, capped, literal, literal_by, symbol_by, single_symbol}
 use Rattle.nova_pig_scan.specs.Tokens.{piece, piece_by, dash, slash, word, numeral, number, position, quoted, word_token, comment, symbol_piece}
-use Rattle.nova_pig_scan.proofs.RunLengths.{and_left, and_right, both, twice, run_passes}
+use Rattle.nova_pig_scan.proofs.RunLengths.{twice, run_passes}
 use Rattle.nova_pig_scan.proofs.Words.{name_lexeme}
 use Rattle.nova_pig_scan.proofs.Fits.{piece_of, numeral_of, place_of}
 
@@ -84,8 +84,8 @@ block_formed [] = tt
 block_formed (b ∷ bs) = by (b == 42 && begins 47 bs) refl (block bs) (block_formed bs)
   where
     ends : (bs : Text) → (b == 42 && begins 47 bs) ≡ true → take 2 (b ∷ bs) ≡ 42 ∷ 47 ∷ []
-    ends [] e = absurd (let f = and_right (b == 42) false e in cc)
-    ends (d ∷ bs) e = let f = eqb-true b 42 (and_left (b == 42) (d == 47) e) in let g = eqb-true d 47 (and_right (b == 42) (d == 47) e) in ap (λ x. x ∷ d ∷ []) f ∙ ap (λ x. 42 ∷ x ∷ []) g
+    ends [] e = absurd (let f = (and_parts (b == 42) false e).1 in cc)
+    ends (d ∷ bs) e = let f = eqb-true b 42 ((and_parts (b == 42) (d == 47) e).0) in let g = eqb-true d 47 ((and_parts (b == 42) (d == 47) e).1) in ap (λ x. x ∷ d ∷ []) f ∙ ap (λ x. 42 ∷ x ∷ []) g
 
     false_and : (v : Bool) → not (v && false) ≡ true
     false_and true = refl
@@ -93,19 +93,19 @@ block_formed (b ∷ bs) = by (b == 42 && begins 47 bs) refl (block bs) (block_fo
 
     goes : (us : Text) (n : ℕ) → (b == 42 && begins 47 bs) ≡ false → take n bs ≡ us ++ 42 ∷ 47 ∷ [] → not (b == 42 && begins 47 us) ≡ true
     goes [] n e h = false_and (b == 42)
-    goes (d ∷ us) n e h = ap (λ v. not (b == 42 && v)) (front n bs h) ∙ ap not e
+    goes (d ∷ us) n e h = ap (λ v. not (b == 42 && v)) (prefix n bs h) ∙ ap not e
       where
-        front : (n : ℕ) (bs : Text) → take n bs ≡ d ∷ us ++ 42 ∷ 47 ∷ [] → (d == 47) ≡ begins 47 bs
-        front zero bs h = absurd cc
-        front (suc n) [] h = absurd cc
-        front (suc n) (x ∷ bs) h = let e : x ≡ d = cc in ap (λ y. y == 47) (sym e)
+        prefix : (n : ℕ) (bs : Text) → take n bs ≡ d ∷ us ++ 42 ∷ 47 ∷ [] → (d == 47) ≡ begins 47 bs
+        prefix zero bs h = absurd cc
+        prefix (suc n) [] h = absurd cc
+        prefix (suc n) (x ∷ bs) h = let e : x ≡ d = cc in ap (λ y. y == 47) (sym e)
 
     by : (v : Bool) → (b == 42 && begins 47 bs) ≡ v → (o : Option ℕ) → Closed bs o → Closed (b ∷ bs) (if v then Some 2 else two_more o)
     by true e o h = ([], ends bs e, refl)
     by false e None h = tt
     by false e (Some n) h =
         let one : n + 1 ≡ suc n = omega arith in
-        (b ∷ h.0, ap (λ k. take k (b ∷ bs)) one ∙ ap (λ ts. b ∷ ts) h.1, both _ _ (goes h.0 n e h.1) h.2)
+        (b ∷ h.0, ap (λ k. take k (b ∷ bs)) one ∙ ap (λ ts. b ∷ ts) h.1, and_from _ _ (goes h.0 n e h.1) h.2)
 
 slash_formed : (bs : Text) → Formed (47 ∷ bs) (slash bs)
 slash_formed [] = tt
@@ -139,7 +139,7 @@ number_formed b bs digit =
     one = omega arith
 
     are : IsDigits (b ∷ take (digit_len bs) bs)
-    are = both (is_ascii_digit b) (list_all is_ascii_digit (take (digit_len bs) bs)) digit (sym (twice is_ascii_digit (take (digit_len bs) bs)) ∙ run_passes (λ b. not (not (is_ascii_digit b))) bs)
+    are = and_from (is_ascii_digit b) (list_all is_ascii_digit (take (digit_len bs) bs)) digit (sym (twice is_ascii_digit (take (digit_len bs) bs)) ∙ run_passes (λ b. not (not (is_ascii_digit b))) bs)
 
     suffixed : (after : Text) → drop (digit_len bs) bs ≡ after → (begins 76 after || begins 108 after) ≡ true → IsLexeme (take (suc (digit_len bs) + 1) (b ∷ bs)) (number_of (value (b ∷ take (digit_len bs) bs)))
     suffixed [] e h = absurd cc
@@ -172,7 +172,7 @@ position_formed bs =
         by true f e =
             let one : 1 + digit_len bs ≡ suc (digit_len bs) = omega arith in
             subst (λ n. IsDigits (take n (b ∷ bs))) (sym one)
-            (both (is_ascii_digit b) (list_all is_ascii_digit (take (digit_len bs) bs)) f (sym (twice is_ascii_digit (take (digit_len bs) bs)) ∙ run_passes (λ b. not (not (is_ascii_digit b))) bs))
+            (and_from (is_ascii_digit b) (list_all is_ascii_digit (take (digit_len bs) bs)) f (sym (twice is_ascii_digit (take (digit_len bs) bs)) ∙ run_passes (λ b. not (not (is_ascii_digit b))) bs))
         by false f e = absurd cc
 
 -- literals: what is read, where nothing or a backslash stands in front
@@ -239,9 +239,9 @@ two_signed b c (a ∷ bs) d x y ex ey e = by (a == d) refl
     by false f = ap (λ x. x ∷ []) (eqb-true b c e) ∙ sym ey
 
 unequal_signed : (b : ℕ) (bs : Text) → (b == 33 && begins 61 bs) ≡ true → Signed (b ∷ bs) (Some (s.Compare c.Ne, 2))
-unequal_signed b [] e = absurd (let f = and_right (b == 33) false e in cc)
+unequal_signed b [] e = absurd (let f = (and_parts (b == 33) false e).1 in cc)
 unequal_signed b (a ∷ bs) e =
-    ap (λ x. x ∷ a ∷ []) (eqb-true b 33 (and_left (b == 33) (a == 61) e)) ∙ ap (λ x. 33 ∷ x ∷ []) (eqb-true a 61 (and_right (b == 33) (a == 61) e))
+    ap (λ x. x ∷ a ∷ []) (eqb-true b 33 ((and_parts (b == 33) (a == 61) e).0)) ∙ ap (λ x. 33 ∷ x ∷ []) (eqb-true a 61 ((and_parts (b == 33) (a == 61) e).1))
 
 symbol_signed : (b : ℕ) (bs : Text) → Signed (b ∷ bs) (symbol_by b bs)
 symbol_signed b bs =
@@ -256,17 +256,17 @@ symbol_formed text None h = tt
 symbol_formed text (Some p) h = subst (λ ts. IsLexeme ts (Is (t.Symbol p.0))) (sym h) (is_symbol p.0)
 
 -- the byte in front, where it is known
-front_formed : (b c : ℕ) (bs : Text) (q : Piece) → (b == c) ≡ true → Formed (c ∷ bs) q → Formed (b ∷ bs) q
-front_formed b c bs q e h = subst (λ x. Formed (x ∷ bs) q) (sym (eqb-true b c e)) h
+first_formed : (b c : ℕ) (bs : Text) (q : Piece) → (b == c) ≡ true → Formed (c ∷ bs) q → Formed (b ∷ bs) q
+first_formed b c bs q e h = subst (λ x. Formed (x ∷ bs) q) (sym (eqb-true b c e)) h
 
 class_formed : (k : Class) (b : ℕ) (bs : Text) → Fact b k → Formed (b ∷ bs) (piece_by k (b ∷ bs) bs)
 class_formed class.Blank b bs e = blank b e
-class_formed class.Dash b bs e = front_formed b 45 bs (dash bs) e (dash_formed bs)
-class_formed class.Slash b bs e = front_formed b 47 bs (slash bs) e (slash_formed bs)
+class_formed class.Dash b bs e = first_formed b 45 bs (dash bs) e (dash_formed bs)
+class_formed class.Slash b bs e = first_formed b 47 bs (slash bs) e (slash_formed bs)
 class_formed class.Letter b bs e = word_formed b bs e
 class_formed class.Digit b bs e = number_formed b bs e
-class_formed class.Dollar b bs e = front_formed b 36 bs (position bs) e (position_formed bs)
-class_formed class.Quote b bs e = front_formed b 39 bs (quoted (literal false bs)) e (quoted_formed bs (literal false bs) (literal_formed false bs))
+class_formed class.Dollar b bs e = first_formed b 36 bs (position bs) e (position_formed bs)
+class_formed class.Quote b bs e = first_formed b 39 bs (quoted (literal false bs)) e (quoted_formed bs (literal false bs) (literal_formed false bs))
 class_formed class.Other b bs e = symbol_formed (b ∷ bs) (symbol_by b bs) (symbol_signed b bs)
 
 -- the piece in front of a text is a lexeme

@@ -1,7 +1,7 @@
 -- Names and the insides of literals are text values.
 use Rattle.std.proofs.Common.{◌≡◌, ℕ, zero, suc, ◌+◌, ◌<◌, ◌≤◌, Bool, true, false, List, [], ◌∷◌, ◌++◌, length, take, drop, get_or, Option, Some, None, refl, ap, sym, subst, ◌∙◌, arith, drop-cons, drop-drop, drop_of_length-le, MatchOption}
 use Rattle.std.proofs.lemmas.Bool.Decides.{nat_tests}
-use Rattle.std.proofs.lemmas.Bool.{eqb-true}
+use Rattle.std.proofs.lemmas.Bool.{eqb-true, and_parts, and_from}
 use Rattle.std.specs.Prelude.{if◌then◌else◌, ◌||◌, ◌==◌, not, nat_lt, encode_utf8, encode_utf8_all}
 use Rattle.std.specs.List.{list_all}
 use Rattle.std.specs.Char.{is_ascii_alphabetic}
@@ -10,12 +10,13 @@ use Rattle.std.proofs.lemmas.Str.{IsUtf8-nil, IsUtf8-append, IsUtf8-drop, IsUtf8
 use Rattle.std.proofs.Math.Utf8.{scalar, scalars}
 use Rattle.std.specs.Char.{IsScalar, len_utf8}
 use Rattle.std.proofs.lemmas.List.{append-nil}
+use Rattle.nova_value.specs.declared.limit.TheConstants.{MAX_TEXT_BYTES}
 use Rattle.nova_value.specs.Text.{is_clean, IsText}
 use Rattle.nova_pig_scan.specs.declared.lex.Step.{Step}
 use Rattle.nova_pig_scan.specs.declared.lex.Step.TheVariants as st
 use Rattle.nova_pig_scan.specs.Lexemes.{Text, IsName, is_word, begins, is_escaped}
 use Rattle.nova_pig_scan.specs.Lex.{word_len, literal, literal_by, with_byte, step_of}
-use Rattle.nova_pig_scan.proofs.RunLengths.{and_left, and_right, both, twice, run_passes}
+use Rattle.nova_pig_scan.proofs.RunLengths.{twice, run_passes}
 
 -- names
 pub word_name : (b : ℕ) (text rest : Text) → text ≡ b ∷ rest → is_ascii_alphabetic b ≡ true → IsName (take (word_len rest + 1) text)
@@ -32,17 +33,17 @@ word_byte b e = (grind (arith, nat_tests), grind (arith, nat_tests))
 
 words_clean : (us : Text) → list_all is_word us ≡ true → is_clean us ≡ true
 words_clean [] h = refl
-words_clean (b ∷ us) h = both (not (b == 9 || b == 10)) (is_clean us) (word_byte b (and_left (is_word b) (list_all is_word us) h)).1 (words_clean us (and_right (is_word b) (list_all is_word us) h))
+words_clean (b ∷ us) h = and_from (not (b == 9 || b == 10)) (is_clean us) (word_byte b ((and_parts (is_word b) (list_all is_word us) h).0)).1 (words_clean us ((and_parts (is_word b) (list_all is_word us) h).1))
 
 words_ascii : (us : Text) → list_all is_word us ≡ true → IsAscii us
 words_ascii [] h i = omega arith
-words_ascii (b ∷ us) h zero = (word_byte b (and_left (is_word b) (list_all is_word us) h)).0
-words_ascii (b ∷ us) h (suc i) = words_ascii us (and_right (is_word b) (list_all is_word us) h) i
+words_ascii (b ∷ us) h zero = (word_byte b ((and_parts (is_word b) (list_all is_word us) h).0)).0
+words_ascii (b ∷ us) h (suc i) = words_ascii us ((and_parts (is_word b) (list_all is_word us) h).1) i
 
-pub name_text : (us : Text) → IsName us → length us ≤ 65535 → IsText us
+pub name_text : (us : Text) → IsName us → length us ≤ MAX_TEXT_BYTES → IsText us
 name_text [] name short = absurd name
 name_text (b ∷ bs) name short =
-    let words = both (is_word b) (list_all is_word bs) (letter_word b name.0) name.1 in
+    let words = and_from (is_word b) (list_all is_word bs) (letter_word b name.0) name.1 in
     record { short = short; clean = words_clean (b ∷ bs) words; utf8 = is_utf8-from_IsUtf8 (b ∷ bs) (IsUtf8-from_ascii (b ∷ bs) (words_ascii (b ∷ bs) words)) }
 
 -- the inside of a literal holds no tab and no newline
@@ -58,7 +59,7 @@ literal_clean true (b ∷ bs) = by (is_escaped b) refl (literal false bs) (liter
         → MatchOption (literal_by (if v then st.Keep else st.Bad) b o (literal true bs)) (Unit {0}) (λ p. is_clean p.0 ≡ true)
     by false e o h = tt
     by true e None h = tt
-    by true e (Some p) h = both (not (b == 9 || b == 10)) (is_clean p.0) (clean e) h
+    by true e (Some p) h = and_from (not (b == 9 || b == 10)) (is_clean p.0) (clean e) h
 literal_clean false (b ∷ bs) = by (b == 39) (b == 92) (b == 9 || b == 10) refl (literal false bs) (literal_clean false bs) (literal true bs) (literal_clean true bs)
   where
     by : (q e v : Bool) → (b == 9 || b == 10) ≡ v
@@ -69,7 +70,7 @@ literal_clean false (b ∷ bs) = by (b == 39) (b == 92) (b == 9 || b == 10) refl
     by false true v f o h (Some p) h' = h'
     by false false true f o h o' h' = tt
     by false false false f None h o' h' = tt
-    by false false false f (Some p) h o' h' = both (not (b == 9 || b == 10)) (is_clean p.0) (ap not f) h
+    by false false false f (Some p) h o' h' = and_from (not (b == 9 || b == 10)) (is_clean p.0) (ap not f) h
 
 literal_short : (escaped : Bool) (bs : Text) → MatchOption (literal escaped bs) (Unit {0}) (λ p. length p.0 ≤ length bs)
 unfolding literal
@@ -92,22 +93,22 @@ HasUtf8 o = MatchOption o (Unit {0}) (λ p. IsUtf8 p.0)
 high_step : (x : ℕ) → 128 ≤ x → (step_of false x ≡ st.Keep) × (step_of true x ≡ st.Bad)
 high_step x h = (grind (arith, nat_tests), grind (arith, nat_tests))
 
-abbrev in_front : Text → Option (Text × ℕ) → Option (Text × ℕ)
-in_front xs (Some p) = Some (xs ++ p.0, length xs + p.1)
-in_front xs None = None
+abbrev with_prefix : Text → Option (Text × ℕ) → Option (Text × ℕ)
+with_prefix xs (Some p) = Some (xs ++ p.0, length xs + p.1)
+with_prefix xs None = None
 
-high_front : (xs rest : Text) → ((k : ℕ) → k < length xs → 128 ≤ get_or xs k 0) → literal false (xs ++ rest) ≡ in_front xs (literal false rest)
+high_prefix : (xs rest : Text) → ((k : ℕ) → k < length xs → 128 ≤ get_or xs k 0) → literal false (xs ++ rest) ≡ with_prefix xs (literal false rest)
 unfolding literal
-high_front [] rest h = none (literal false rest)
+high_prefix [] rest h = none (literal false rest)
   where
-    none : (o : Option (Text × ℕ)) → o ≡ in_front [] o
+    none : (o : Option (Text × ℕ)) → o ≡ with_prefix [] o
     none None = refl
     none (Some p) = ap (λ n. Some (p.0, n)) (omega arith)
-high_front (x ∷ xs) rest h =
+high_prefix (x ∷ xs) rest h =
     ap (λ s. literal_by s x (literal false (xs ++ rest)) (literal true (xs ++ rest))) (high_step x (h 0 (omega arith))).0
-    ∙ ap (with_byte x) (high_front xs rest (λ k l. h (suc k) (omega arith))) ∙ one (literal false rest)
+    ∙ ap (with_byte x) (high_prefix xs rest (λ k l. h (suc k) (omega arith))) ∙ one (literal false rest)
   where
-    one : (o : Option (Text × ℕ)) → with_byte x (in_front xs o) ≡ in_front (x ∷ xs) o
+    one : (o : Option (Text × ℕ)) → with_byte x (with_prefix xs o) ≡ with_prefix (x ∷ xs) o
     one None = refl
     one (Some p) = ap (λ n. Some (x ∷ xs ++ p.0, n)) (omega arith)
 
@@ -115,9 +116,9 @@ high_escaped : (x : ℕ) (rest : Text) → 128 ≤ x → HasUtf8 (literal true (
 unfolding literal
 high_escaped x rest h = subst (λ s. HasUtf8 (literal_by s x (literal false rest) (literal true rest))) (sym (high_step x h).1) tt
 
-front_utf8 : (xs : Text) (o : Option (Text × ℕ)) → IsUtf8 xs → HasUtf8 o → HasUtf8 (in_front xs o)
-front_utf8 xs None u h = tt
-front_utf8 xs (Some p) u h = IsUtf8-append xs p.0 u h
+prefix_utf8 : (xs : Text) (o : Option (Text × ℕ)) → IsUtf8 xs → HasUtf8 o → HasUtf8 (with_prefix xs o)
+prefix_utf8 xs None u h = tt
+prefix_utf8 xs (Some p) u h = IsUtf8-append xs p.0 u h
 
 low_utf8 : (escaped : Bool) (c : ℕ) (rest : Text) → c < 128 → HasUtf8 (literal false rest) → HasUtf8 (literal true rest) → HasUtf8 (literal escaped (c ∷ rest))
 unfolding literal
@@ -149,7 +150,7 @@ char_utf8 escaped c rest is h h' = by (nat_lt c 128) refl
         at_least false e = grind (arith, nat_tests)
 
     long : 128 ≤ c → (escaped : Bool) → HasUtf8 (literal escaped (encode_utf8 c ++ rest))
-    long l false = subst HasUtf8 (sym (high_front (encode_utf8 c) rest (high l))) (front_utf8 (encode_utf8 c) (literal false rest) (IsUtf8-encode c is) h)
+    long l false = subst HasUtf8 (sym (high_prefix (encode_utf8 c) rest (high l))) (prefix_utf8 (encode_utf8 c) (literal false rest) (IsUtf8-encode c is) h)
     long l true = first (encode_utf8 c) (high l) (len_utf8_bounds c) (length-encode c)
       where
         first : (xs : Text) → ((k : ℕ) → k < length xs → 128 ≤ get_or xs k 0) → (1 ≤ len_utf8 c) × (len_utf8 c ≤ 4) → length xs ≡ len_utf8 c → HasUtf8 (literal true (xs ++ rest))
@@ -164,13 +165,13 @@ chars_utf8 : (cs : List ℕ) → scalars cs ≡ true → (escaped : Bool) → Ha
 unfolding literal
 chars_utf8 [] is escaped = tt
 chars_utf8 (c ∷ cs) is escaped =
-    let more = and_right (scalar c) (scalars cs) is in
-    char_utf8 escaped c (encode_utf8_all cs) (and_left (scalar c) (scalars cs) is) (chars_utf8 cs more false) (chars_utf8 cs more true)
+    let more = (and_parts (scalar c) (scalars cs) is).1 in
+    char_utf8 escaped c (encode_utf8_all cs) ((and_parts (scalar c) (scalars cs) is).0) (chars_utf8 cs more false) (chars_utf8 cs more true)
 
 literal_utf8 : (bs : Text) → IsUtf8 bs → HasUtf8 (literal false bs)
 literal_utf8 bs u = subst (λ ts. HasUtf8 (literal false ts)) u.1.1 (chars_utf8 u.0 u.1.0 false)
 
-pub literal_text : (bs : Text) (text : Text) (n : ℕ) → IsUtf8 bs → length bs ≤ 65535 → literal false bs ≡ Some (text, n) → IsText text
+pub literal_text : (bs : Text) (text : Text) (n : ℕ) → IsUtf8 bs → length bs ≤ MAX_TEXT_BYTES → literal false bs ≡ Some (text, n) → IsText text
 literal_text bs text n u short e = record {
   short = let h = subst (λ o. MatchOption o (Unit {0}) (λ p. length p.0 ≤ length bs)) e (literal_short false bs) in omega arith;
   clean = subst (λ o. MatchOption o (Unit {0}) (λ p. is_clean p.0 ≡ true)) e (literal_clean false bs);

@@ -1,8 +1,10 @@
 -- The tokens of a text, by the piece in front.
 use Rattle.std.proofs.Common.{◌≡◌, ℕ, zero, suc, ◌+◌, ◌-◌, ◌<◌, ◌≤◌, Bool, true, false, List, [], ◌∷◌, ◌++◌, length, take, drop, Option, Some, None, Ok, Err, refl, ap, sym, ◌∙◌, arith, add-zero, append_assoc, length-drop, MatchOption}
 use Rattle.std.specs.Prelude.{if◌then◌else◌, ◌&&◌, ◌||◌, ◌==◌}
+use Rattle.std.proofs.lemmas.Bool.{and_parts}
 use Rattle.std.proofs.lemmas.List.{drop-drop}
 use Rattle.std.proofs.lemmas.List.Sums.{prefix_len-le-length}
+use Rattle.nova_pig_scan.specs.declared.lex.TheConstants.{TOO_LARGE}
 use Rattle.nova_pig_tree.specs.declared.token.Token.{Token}
 use Rattle.nova_pig_tree.specs.declared.token.Symbol.{Symbol}
 use Rattle.nova_pig_scan.specs.declared.lex.Class.{Class}
@@ -15,7 +17,7 @@ use Rattle.nova_pig_tree.specs.declared.token.Placed.{Placed}
 use Rattle.nova_pig_scan.specs.Lex.{class_of, line_len, block, two_more, word_len, digit_len, capped, literal, literal_by, step_of, symbol_by, single_symbol}
 use Rattle.nova_pig_scan.specs.Lexemes.{Text, begins}
 use Rattle.nova_pig_scan.specs.Text.{placed}
-use Rattle.nova_pig_scan.specs.Tokens.{Outcome, piece, piece_by, dash, comment, slash, numeral, position, quoted, symbol_piece, scan, scan_by, onto, after, next, Within}
+use Rattle.nova_pig_scan.specs.Tokens.{Outcome, piece, piece_by, dash, comment, slash, numeral, position, quoted, symbol_piece, scan, scan_by, onto, prepended, next, Within}
 
 -- the bytes inside a piece are passed over
 pub scan_inside : (n at : ℕ) (text : Text) → scan n at text ≡ scan 0 (at + n) (drop n text)
@@ -57,16 +59,12 @@ begins-some : (b : ℕ) (text : Text) → begins b text ≡ true → 1 ≤ lengt
 begins-some b [] e = absurd cc
 begins-some b (c ∷ cs) e = omega arith
 
-and-right : (a b : Bool) → (a && b) ≡ true → b ≡ true
-and-right true b e = e
-and-right false b e = absurd cc
-
 pub block-within : (text : Text) → MatchOption (block text) (Unit {0}) (λ n. n ≤ length text)
 unfolding block
 block-within [] = tt
 block-within (b ∷ bs) =
     let e : suc (length bs) ≡ length bs + 1 = omega arith in
-    rw e (block_by-within (b == 42 && begins 47 bs) (block bs) (length bs) (block-within bs) (λ h. begins-some 47 bs (and-right (b == 42) (begins 47 bs) h)))
+    rw e (block_by-within (b == 42 && begins 47 bs) (block bs) (length bs) (block-within bs) (λ h. begins-some 47 bs ((and_parts (b == 42) (begins 47 bs) h).1)))
 
 chosen : (t : Bool) (p q : Piece) (n : ℕ) → (t ≡ true → Within p n) → (t ≡ false → Within q n) → Within (if t then p else q) n
 chosen true p q n h k = h refl
@@ -81,7 +79,7 @@ quoted-within None n h = tt
 quoted-within (Some p) n h = (omega arith, omega (arith, h))
 
 numeral-within : (value n len : ℕ) → 0 < n → n ≤ len → Within (numeral value n) len
-numeral-within value n len h k = chosen (value == 9223372036854775808) _ _ len (λ e. (h, k)) (λ e. (h, k))
+numeral-within value n len h k = chosen (value == TOO_LARGE) _ _ len (λ e. (h, k)) (λ e. (h, k))
 
 line-le : (bs : Text) → line_len bs ≤ length bs
 line-le bs = prefix_len-le-length _ bs
@@ -138,7 +136,7 @@ two-within false a b n h = (omega arith, omega arith)
 symbol_by-within : (b : ℕ) (bs : Text) → Symbolic (symbol_by b bs) (suc (length bs))
 symbol_by-within b bs =
     symbolic_if (b == 61) _ _ _ (λ e. two-within (begins 61 bs) _ _ _ (begins-some 61 bs)) (λ e.
-    symbolic_if (b == 33 && begins 61 bs) _ _ _ (λ e. let k = begins-some 61 bs (and-right (b == 33) _ e) in (omega arith, omega (arith, k))) (λ e.
+    symbolic_if (b == 33 && begins 61 bs) _ _ _ (λ e. let k = begins-some 61 bs ((and_parts (b == 33) _ e).1) in (omega arith, omega (arith, k))) (λ e.
     symbolic_if (b == 60) _ _ _ (λ e. two-within (begins 61 bs) _ _ _ (begins-some 61 bs)) (λ e.
     symbolic_if (b == 62) _ _ _ (λ e. two-within (begins 61 bs) _ _ _ (begins-some 61 bs)) (λ e.
     symbolic_if (b == 58) _ _ _ (λ e. two-within (begins 58 bs) _ _ _ (begins-some 58 bs)) (λ e.
@@ -150,7 +148,7 @@ symbol_piece-within (Some p) n h = h
 
 position-within : (bs : Text) → Within (position bs) (suc (length bs))
 position-within bs = chosen (digit_len bs == 0) _ _ _ (λ e. tt) (λ e.
-    chosen (capped (take (digit_len bs) bs) == 9223372036854775808) _ _ _ (λ e. (omega arith, let h = digits-le bs in omega (arith, h)))
+    chosen (capped (take (digit_len bs) bs) == TOO_LARGE) _ _ _ (λ e. (omega arith, let h = digits-le bs in omega (arith, h)))
     (λ e. (omega arith, let h = digits-le bs in omega (arith, h))))
 
 piece_by-within : (c : Class) (b : ℕ) (bs : Text) → Within (piece_by c (b ∷ bs) bs) (suc (length bs))
@@ -191,22 +189,22 @@ unfolding scan
 scan_step at [] = refl
 scan_step at (b ∷ bs) = scan_by-same (piece (b ∷ bs)) b at bs (piece-within (b ∷ bs))
 
-after_onto : (front : List Placed) (p : Placed) (o : Outcome) → after front (onto p o) ≡ after (front ++ p ∷ []) o
-after_onto front p (Ok ps) = ap Ok (sym (append_assoc front (p ∷ []) ps))
-after_onto front p (Err f) = refl
+prepended_onto : (prefix : List Placed) (p : Placed) (o : Outcome) → prepended prefix (onto p o) ≡ prepended (prefix ++ p ∷ []) o
+prepended_onto prefix p (Ok ps) = ap Ok (sym (append_assoc prefix (p ∷ []) ps))
+prepended_onto prefix p (Err f) = refl
 
 -- one turn of the scanner
-pub turn : (front : List Placed) (at : ℕ) (text : Text) (p : Piece) → p ≡ piece (drop at text)
-    → after front (scan 0 at (drop at text)) ≡ after front (next p at (drop at text))
-turn front at text p e = ap (after front) (scan_step at (drop at text) ∙ ap (λ q. next q at (drop at text)) (sym e))
+pub turn : (prefix : List Placed) (at : ℕ) (text : Text) (p : Piece) → p ≡ piece (drop at text)
+    → prepended prefix (scan 0 at (drop at text)) ≡ prepended prefix (next p at (drop at text))
+turn prefix at text p e = ap (prepended prefix) (scan_step at (drop at text) ∙ ap (λ q. next q at (drop at text)) (sym e))
 
-pub turn_skip : (front : List Placed) (at n : ℕ) (text : Text) → Skip n ≡ piece (drop at text)
-    → after front (scan 0 at (drop at text)) ≡ after front (scan 0 (at + n) (drop (at + n) text))
-turn_skip front at n text e = turn front at text (Skip n) e ∙ ap (λ us. after front (scan 0 (at + n) us)) (drop-drop n at text)
+pub turn_skip : (prefix : List Placed) (at n : ℕ) (text : Text) → Skip n ≡ piece (drop at text)
+    → prepended prefix (scan 0 at (drop at text)) ≡ prepended prefix (scan 0 (at + n) (drop (at + n) text))
+turn_skip prefix at n text e = turn prefix at text (Skip n) e ∙ ap (λ us. prepended prefix (scan 0 (at + n) us)) (drop-drop n at text)
 
-pub turn_take : (front : List Placed) (at n : ℕ) (text : Text) (t : Token) → Take t n ≡ piece (drop at text)
-    → after front (scan 0 at (drop at text)) ≡ after (front ++ placed t at n ∷ []) (scan 0 (at + n) (drop (at + n) text))
-turn_take front at n text t e = turn front at text (Take t n) e ∙ after_onto front (placed t at n) (scan 0 (at + n) (drop n (drop at text))) ∙ ap (λ us. after (front ++ placed t at n ∷ []) (scan 0 (at + n) us)) (drop-drop n at text)
+pub turn_take : (prefix : List Placed) (at n : ℕ) (text : Text) (t : Token) → Take t n ≡ piece (drop at text)
+    → prepended prefix (scan 0 at (drop at text)) ≡ prepended (prefix ++ placed t at n ∷ []) (scan 0 (at + n) (drop (at + n) text))
+turn_take prefix at n text t e = turn prefix at text (Take t n) e ∙ prepended_onto prefix (placed t at n) (scan 0 (at + n) (drop n (drop at text))) ∙ ap (λ us. prepended (prefix ++ placed t at n ∷ []) (scan 0 (at + n) us)) (drop-drop n at text)
 
 pub within_at : (at : ℕ) (text : Text) (p : Piece) → at ≤ length text → p ≡ piece (drop at text) → Within p (length text - at)
 within_at at text p room e = rw e (rw (← (length-drop at text)) (piece-within (drop at text)))
@@ -241,9 +239,9 @@ piece_by_end class.Blank b bs e = cc
 piece_by_end class.Dash b bs e = dash_end bs e
 piece_by_end class.Slash b bs e = slash_end bs e
 piece_by_end class.Letter b bs e = cc
-piece_by_end class.Digit b bs e = if_end (capped (take (digit_len bs + 1) (b ∷ bs)) == 9223372036854775808) _ _ (λ e. cc) (λ e. cc) e
+piece_by_end class.Digit b bs e = if_end (capped (take (digit_len bs + 1) (b ∷ bs)) == TOO_LARGE) _ _ (λ e. cc) (λ e. cc) e
 piece_by_end class.Dollar b bs e =
-    if_end (digit_len bs == 0) _ _ (λ e. cc) (if_end (capped (take (digit_len bs) bs) == 9223372036854775808) _ _ (λ e. cc) (λ e. cc)) e
+    if_end (digit_len bs == 0) _ _ (λ e. cc) (if_end (capped (take (digit_len bs) bs) == TOO_LARGE) _ _ (λ e. cc) (λ e. cc)) e
 piece_by_end class.Quote b bs e = quoted_end (literal false bs) e
 piece_by_end class.Other b bs e = symbol_end (symbol_by b bs) e
 

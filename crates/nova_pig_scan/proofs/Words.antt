@@ -1,5 +1,6 @@
 -- Which token a name is.
 use Rattle.std.proofs.Common.{◌≡◌, Bool, true, false, List, [], ◌∷◌, map, Option, Some, None, refl, ap, sym, ◌∙◌}
+use Rattle.std.proofs.lemmas.Bool.{and_parts, false_from_ne_true}
 use Rattle.std.proofs.lemmas.Slice.Eq.{bytes_eq-Decides}
 use Rattle.std.specs.Prelude.{if◌then◌else◌, ◌&&◌}
 use Rattle.std.specs.Str.{str_to_ascii_lowercase, bytes_eq}
@@ -16,10 +17,6 @@ same_bytes us vs e = (bytes_eq-Decides us vs).0 e
 
 pub bytes_same : (us vs : Text) → us ≡ vs → bytes_eq us vs ≡ true
 bytes_same us vs e = (bytes_eq-Decides us vs).1 e
-
-other : (t : Bool) → (t ≡ true → ⊥) → t ≡ false
-other true h = absurd (h refl)
-other false h = refl
 
 -- the table with its words in lower case
 abbrev lookup_lower : List (Text × Word) → Text → Option Word
@@ -79,18 +76,10 @@ IsTable (k ∷ ks) = bytes_eq (str_to_ascii_lowercase k.0) (spelling k.1) && IsT
 
 found_spelled : (ks : List (Text × Word)) (low : Text) (k : Word) → IsTable ks ≡ true → lookup_lower ks low ≡ Some k → low ≡ spelling k
 found_spelled [] low k h e = absurd cc
-found_spelled (j ∷ ks) low k h e = by (bytes_eq (str_to_ascii_lowercase j.0) low) refl e (found_spelled ks low k (right _ _ h))
+found_spelled (j ∷ ks) low k h e = by (bytes_eq (str_to_ascii_lowercase j.0) low) refl e (found_spelled ks low k (and_parts _ _ h).1)
   where
-    right : (a b : Bool) → (a && b) ≡ true → b ≡ true
-    right true b e = e
-    right false b e = absurd cc
-
-    left : (a b : Bool) → (a && b) ≡ true → a ≡ true
-    left true b e = refl
-    left false b e = e
-
     by : (t : Bool) → bytes_eq (str_to_ascii_lowercase j.0) low ≡ t → (if t then Some j.1 else lookup_lower ks low) ≡ Some k → (lookup_lower ks low ≡ Some k → low ≡ spelling k) → low ≡ spelling k
-    by true same e more = let a = same_bytes _ low same in let b = same_bytes (str_to_ascii_lowercase j.0) (spelling j.1) (left _ _ h) in let c : j.1 ≡ k = cc in sym a ∙ b ∙ ap spelling c
+    by true same e more = let a = same_bytes _ low same in let b = same_bytes (str_to_ascii_lowercase j.0) (spelling j.1) (and_parts _ _ h).0 in let c : j.1 ≡ k = cc in sym a ∙ b ∙ ap spelling c
     by false same e more = more e
 
 pub keyword_found : (us : Text) (k : Word) → str_to_ascii_lowercase us ≡ spelling k → keyword us ≡ Some k
@@ -119,7 +108,7 @@ keyword_token us k e =
 
 pub name_token : (us : Text) → ((k : Word) → str_to_ascii_lowercase us ≡ spelling k → ⊥) → (str_to_ascii_lowercase us ≡ group_word → ⊥) → word_token us ≡ name_of us
 name_token us unlike not_group =
-    ap (λ v. if v then t.Group (bytes_eq us group_word) else keyword_or us (keyword us)) (other (bytes_eq (str_to_ascii_lowercase us) group_word) (λ e. not_group (same_bytes _ group_word e)))
+    ap (λ v. if v then t.Group (bytes_eq us group_word) else keyword_or us (keyword us)) (false_from_ne_true (bytes_eq (str_to_ascii_lowercase us) group_word) (λ e. not_group (same_bytes _ group_word e)))
     ∙ ap (keyword_or us) (keyword_none us unlike)
 
 -- a name is a lexeme

@@ -1,5 +1,5 @@
 -- The runs of bytes that pieces are made of, as the code finds them.
-use Rattle.std.specs.Prelude.{◌≡◌, ℕ, ◌+◌, min, Bool, true, false, not, ◌&&◌, ◌||◌, if◌then◌else◌, ◌==◌, List, [], ◌∷◌, ◌++◌, map, Option, Some, None, Result, Ok, Err}
+use Rattle.std.specs.Prelude.{if◌then◌else◌, ◌≡◌, ℕ, ◌+◌, min, Bool, true, false, not, ◌&&◌, ◌||◌, ◌==◌, List, [], ◌∷◌, ◌++◌, map, Option, Some, None, Result, Ok, Err}
 use Rattle.std.specs.List.{position_or_len}
 use Rattle.std.specs.Char.{is_ascii_digit, is_ascii_alphabetic}
 use Rattle.std.specs.Str.{str_eq_ignore_ascii_case}
@@ -12,11 +12,11 @@ use Rattle.nova_pig_scan.specs.declared.lex.Class.TheVariants as class
 use Rattle.nova_pig_scan.specs.declared.lex.Step.{Step}
 use Rattle.nova_pig_scan.specs.declared.lex.Step.TheVariants as st
 use Rattle.nova_pig_scan.specs.declared.lex.LexFault.{LexFault}
-use Rattle.nova_pig_scan.specs.declared.lex.LexFault.TheVariants.{Token, Memory}
-use Rattle.nova_pig_scan.specs.declared.lex.TheConstants.{KEYWORDS}
+use Rattle.nova_pig_scan.specs.declared.lex.LexFault.TheVariants.{Token, NoMemory}
+use Rattle.nova_pig_scan.specs.declared.lex.TheConstants.{KEYWORDS, TOO_LARGE}
 use Rattle.nova_pig_scan.specs.Lexemes.{Text, is_word, is_blank, is_newline, begins, value, is_escaped}
 
--- the letters, digits and `_` in front
+-- how many letters, digits and `_` the text begins with
 abbrev pub word_len : Text → ℕ
 word_len = position_or_len (λ b. not (is_word b))
 
@@ -41,7 +41,7 @@ unfoldable pub keyword : Text → Option Word
 keyword = lookup (map (λ k. (k.0.now, k.1)) KEYWORDS)
 
 abbrev pub capped : Text → ℕ
-capped digits = min (value digits) 9223372036854775808
+capped digits = min (value digits) TOO_LARGE
 
 abbrev pub single_symbol : ℕ → Option (Symbol × ℕ)
 single_symbol b =
@@ -90,10 +90,10 @@ unfoldable pub literal : Bool → Text → Option (Text × ℕ)
 literal escaped [] = None
 literal escaped (b ∷ bs) = literal_by (step_of escaped b) b (literal false bs) (literal true bs)
 
-abbrev pub Gives : Option (Text × ℕ) → Result (Text × ℕ) LexFault → Type 0
-Gives o (Ok p) = o ≡ Some p
-Gives o (Err Token) = o ≡ None
-Gives o (Err Memory) = Unit {0}
+abbrev pub IsLiteralOf : Option (Text × ℕ) → Result (Text × ℕ) LexFault → Type 0
+IsLiteralOf o (Ok p) = o ≡ Some p
+IsLiteralOf o (Err Token) = o ≡ None
+IsLiteralOf o (Err NoMemory) = Unit {0}
 
 -- up to the end of the line
 abbrev pub line_len : Text → ℕ
@@ -104,9 +104,9 @@ abbrev pub from_place : ℕ → Option ℕ → Option ℕ
 from_place at (Some n) = Some (at + n)
 from_place at None = None
 
-abbrev pub from_front : Text → ℕ → Option (Text × ℕ) → Option (Text × ℕ)
-from_front out at (Some p) = Some (out ++ p.0, at + p.1)
-from_front out at None = None
+abbrev pub from_prefix : Text → ℕ → Option (Text × ℕ) → Option (Text × ℕ)
+from_prefix out at (Some p) = Some (out ++ p.0, at + p.1)
+from_prefix out at None = None
 
 abbrev pub two_more : Option ℕ → Option ℕ
 two_more (Some n) = Some (n + 1)

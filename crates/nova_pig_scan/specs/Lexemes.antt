@@ -1,8 +1,10 @@
 -- What runs of bytes are: white space and comments, and the table of tokens.
-use Rattle.std.specs.Prelude.{◌≡◌, ℕ, ◌+◌, ◌-◌, ◌*◌, Bool, true, false, not, ◌&&◌, ◌||◌, if◌then◌else◌, ◌==◌, nat_lt, List, [], ◌∷◌, ◌++◌, length, fold, pos, codes}
+use Rattle.std.specs.Prelude.{if◌then◌else◌, ◌≡◌, ℕ, ◌+◌, ◌-◌, ◌*◌, Bool, true, false, not, ◌&&◌, ◌||◌, ◌==◌, nat_lt, List, [], ◌∷◌, ◌++◌, length, fold, pos, codes}
 use Rattle.std.specs.List.{list_all}
 use Rattle.std.specs.Char.{is_ascii_digit, is_ascii_alphanumeric, is_ascii_alphabetic}
 use Rattle.std.specs.Str.{str_to_ascii_lowercase, bytes_eq}
+use Rattle.nova_value.specs.declared.limit.TheConstants.{MAX_TEXT_BYTES}
+use Rattle.nova_pig_scan.specs.declared.lex.TheConstants.{TOO_LARGE}
 use Rattle.nova_pig_tree.specs.declared.expression.CompareOp.TheVariants as c
 use Rattle.nova_pig_tree.specs.declared.token.Word.{Word}
 use Rattle.nova_pig_tree.specs.declared.token.Word.TheVariants as w
@@ -26,7 +28,7 @@ is_newline b = b == 10
 abbrev pub is_word : ℕ → Bool
 is_word b = is_ascii_alphanumeric b || b == 95
 
--- whether the byte is in front
+-- whether the text begins with the byte
 abbrev pub begins : ℕ → Text → Bool
 begins b [] = false
 begins b (c ∷ cs) = c == b
@@ -113,16 +115,16 @@ pub data Lexeme : Type 0 where
   Is : Token → Lexeme
   TooLarge : Lexeme
 
--- the largest number is 9223372036854775807
+-- the largest number is 2^63 - 1
 abbrev pub number_of : ℕ → Lexeme
-number_of n = if nat_lt n 9223372036854775808 then Is (t.Number (pos n)) else TooLarge
+number_of n = if nat_lt n TOO_LARGE then Is (t.Number (pos n)) else TooLarge
 
 abbrev pub position_of : ℕ → Lexeme
-position_of n = if nat_lt n 9223372036854775808 then Is (t.Position n) else TooLarge
+position_of n = if nat_lt n TOO_LARGE then Is (t.Position n) else TooLarge
 
 -- a name that is no keyword; one of more bytes than a text value holds stands in no statement
 abbrev pub name_of : Text → Token
-name_of us = if nat_lt 65535 (length us) then t.LongName else t.Ident us
+name_of us = if nat_lt MAX_TEXT_BYTES (length us) then t.LongName else t.Ident us
 
 -- white space and comments, and the table of tokens
 pub data IsLexeme : Text → Lexeme → Type 0 where

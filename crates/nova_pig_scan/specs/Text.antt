@@ -5,14 +5,14 @@ use Rattle.nova_pig_tree.specs.declared.token.Placed.{Placed}
 use Rattle.nova_pig_scan.specs.declared.scan.Cause.{Cause}
 use Rattle.nova_pig_scan.specs.declared.scan.Cause.TheVariants as cause
 use Rattle.nova_pig_scan.specs.declared.scan.TextFault.{TextFault}
-use Rattle.nova_pig_scan.specs.declared.scan.TextFault.TheVariants.{At, Memory}
+use Rattle.nova_pig_scan.specs.declared.scan.TextFault.TheVariants.{At, NoMemory}
 use Rattle.nova_pig_scan.specs.Lexemes.{Text, Lexeme, Gap, Is, TooLarge, IsLexeme}
 
--- no longer front of these bytes is white space, a comment or a token
+-- no longer prefix of these bytes is white space, a comment or a token
 abbrev pub IsLongest : Text → Text → Type 0
 IsLongest us rest = (vs more : Text) (x : Lexeme) → vs ++ more ≡ us ++ rest → IsLexeme vs x → length vs ≤ length us
 
--- no front of these bytes is white space, a comment or a token
+-- no prefix of these bytes is white space, a comment or a token
 abbrev pub HasNone : Text → Type 0
 HasNone text = (vs more : Text) (x : Lexeme) → vs ++ more ≡ text → IsLexeme vs x → ⊥
 
@@ -39,7 +39,7 @@ pub data FailsAt : ℕ → Text → Cause → ℕ → Type 0 where
 abbrev pub Reads : ℕ → Text → Result (List Placed) TextFault → Type 0
 Reads at text (Ok ps) = IsTokens at text ps
 Reads at text (Err (At c place)) = FailsAt at text c place
-Reads at text (Err Memory) = ⊥
+Reads at text (Err NoMemory) = ⊥
 
 -- a run of bytes is one lexeme at most
 abbrev pub OneLexeme : Type 0

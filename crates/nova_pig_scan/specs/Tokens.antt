@@ -1,6 +1,7 @@
--- The tokens of a text as the scanner finds them: the piece in front, and then what follows it.
-use Rattle.std.specs.Prelude.{◌≡◌, ℕ, zero, suc, ◌+◌, ◌-◌, ◌<◌, ◌≤◌, false, ◌||◌, if◌then◌else◌, ◌==◌, List, [], ◌∷◌, ◌++◌, take, drop, Option, Some, None, Result, Ok, Err, pos}
+-- The tokens of a text as the scanner finds them: the piece that it begins with, and then what follows it.
+use Rattle.std.specs.Prelude.{if◌then◌else◌, ◌≡◌, ℕ, zero, suc, ◌+◌, ◌-◌, ◌<◌, ◌≤◌, false, ◌||◌, ◌==◌, List, [], ◌∷◌, ◌++◌, take, drop, Option, Some, None, Result, Ok, Err, pos}
 use Rattle.std.specs.Str.{str_eq_ignore_ascii_case, bytes_eq}
+use Rattle.nova_pig_scan.specs.declared.lex.TheConstants.{TOO_LARGE}
 use Rattle.nova_pig_tree.specs.declared.token.Word.{Word}
 use Rattle.nova_pig_tree.specs.declared.token.Symbol.{Symbol}
 use Rattle.nova_pig_tree.specs.declared.token.Symbol.TheVariants as s
@@ -13,7 +14,7 @@ use Rattle.nova_pig_scan.specs.declared.piece.Piece.{Piece}
 use Rattle.nova_pig_scan.specs.declared.piece.Piece.TheVariants.{End, Skip, Take, TooLarge, Bad}
 use Rattle.nova_pig_tree.specs.declared.token.Placed.{Placed}
 use Rattle.nova_pig_scan.specs.declared.scan.TextFault.{TextFault}
-use Rattle.nova_pig_scan.specs.declared.scan.TextFault.TheVariants.{At, Memory}
+use Rattle.nova_pig_scan.specs.declared.scan.TextFault.TheVariants.{At, NoMemory}
 use Rattle.nova_pig_scan.specs.Lexemes.{Text, begins, group_word, name_of}
 use Rattle.nova_pig_scan.specs.Lex.{class_of, line_len, block, word_len, digit_len, keyword, capped, literal, symbol}
 use Rattle.nova_pig_scan.specs.Text.{placed}
@@ -43,7 +44,7 @@ abbrev pub word : Text → Text → Piece
 word text rest = let n = word_len rest + 1 in Take (word_token (take n text)) n
 
 abbrev pub numeral : ℕ → ℕ → Piece
-numeral value n = if value == 9223372036854775808 then TooLarge n else Take (t.Number (pos value)) n
+numeral value n = if value == TOO_LARGE then TooLarge n else Take (t.Number (pos value)) n
 
 -- digits, and an `L` or `l` after them
 abbrev pub number : Text → Text → Piece
@@ -52,7 +53,7 @@ number text rest = let n = digit_len rest + 1 in let after = drop n text in
 
 abbrev pub position : Text → Piece
 position text = let n = digit_len text in let value = capped (take n text) in
-    if n == 0 then Bad else (if value == 9223372036854775808 then TooLarge (n + 1) else Take (t.Position value) (n + 1))
+    if n == 0 then Bad else (if value == TOO_LARGE then TooLarge (n + 1) else Take (t.Position value) (n + 1))
 
 abbrev pub quoted : Option (Text × ℕ) → Piece
 quoted (Some p) = Take (t.Literal p.0) (p.1 + 1)
@@ -72,7 +73,7 @@ piece_by class.Dollar text rest = position rest
 piece_by class.Quote text rest = quoted (literal false rest)
 piece_by class.Other text rest = symbol_piece (symbol text)
 
--- what is in front: white space, a comment or the longest token
+-- what the text begins with: white space, a comment or the longest token
 abbrev pub piece : Text → Piece
 piece [] = End
 piece (b ∷ bs) = piece_by (class_of b) (b ∷ bs) bs
@@ -100,9 +101,9 @@ scan zero at (b ∷ bs) = scan_by (piece (b ∷ bs)) at (λ n. scan (n - 1) (at 
 abbrev pub tokens : Text → Outcome
 tokens = scan 0 0
 
-abbrev pub Gives : Outcome → Outcome → Type 0
-Gives spec (Err Memory) = Unit {0}
-Gives spec result = result ≡ spec
+abbrev pub AreTokensOf : Outcome → Outcome → Type 0
+AreTokensOf spec (Err NoMemory) = Unit {0}
+AreTokensOf spec result = result ≡ spec
 
 -- a piece takes a byte at least, and no more than there are
 abbrev pub Within : Piece → ℕ → Type 0
@@ -112,9 +113,9 @@ Within (TooLarge n) len = (0 < n) × (n ≤ len)
 Within _ len = Unit {0}
 
 -- the tokens after some that were read
-abbrev pub after : List Placed → Outcome → Outcome
-after front (Ok ps) = Ok (front ++ ps)
-after front (Err f) = Err f
+abbrev pub prepended : List Placed → Outcome → Outcome
+prepended prefix (Ok ps) = Ok (prefix ++ ps)
+prepended prefix (Err f) = Err f
 
 abbrev pub next : Piece → ℕ → Text → Outcome
 next p at text = scan_by p at (λ n. scan 0 (at + n) (drop n text))

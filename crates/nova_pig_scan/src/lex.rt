@@ -52,7 +52,7 @@ fn is_word(b: u8) -> bool
     b.is_ascii_alphanumeric() || b == b'_'
 }
 
-/// How many letters, digits and `_` stand in front.
+/// How many letters, digits and `_` the text begins with.
 pub fn word_len(text: &[u8]) -> usize
     ensures value { result ≡ spec.word_len text.now }
     ensures within { result ≤ length text.now }
@@ -65,7 +65,7 @@ pub fn word_len(text: &[u8]) -> usize
     text.len()
 }
 
-/// How many digits stand in front.
+/// How many digits the text begins with.
 pub fn digit_len(text: &[u8]) -> usize
     ensures value { result ≡ spec.digit_len text.now }
     ensures within { result ≤ length text.now }
@@ -155,7 +155,7 @@ pub fn digits_value(digits: &[u8]) -> u64
     n
 }
 
-/// The longest symbol in front, and how many bytes it has.
+/// The longest symbol that the text begins with, and how many bytes it has.
 pub fn symbol_at(text: &[u8]) -> Option<(Symbol, usize)>
     ensures { result ≡ spec.symbol text.now }
 {
@@ -195,17 +195,17 @@ fn single_symbol(b: u8) -> Option<(Symbol, usize)>
 #[derive(Clone, Copy, Debug, PartialEq, Eq)]
 pub enum LexFault {
     Token,
-    Memory,
+    NoMemory,
 }
 
 impl From<AllocError> for LexFault {
     ghost use Rattle.std.specs.Prelude.{◌≡◌};
-    ghost use Rattle.nova_pig_scan.specs.declared.lex.LexFault.TheVariants.{Memory};
+    ghost use Rattle.nova_pig_scan.specs.declared.lex.LexFault.TheVariants.{NoMemory};
 
-    ghost from_gives = { λ _ e. e ≡ Memory };
+    ghost from_gives = { λ _ e. e ≡ NoMemory };
 
     fn from(_error: AllocError) -> LexFault {
-        LexFault::Memory
+        LexFault::NoMemory
     }
 }
 
@@ -234,7 +234,7 @@ fn step_of(escaped: bool, b: u8) -> Step
 
 /// The characters of a literal after its opening quote, and how many bytes they and the closing quote take.
 pub fn literal(alloc: Global, text: &[u8]) -> Result<(Items<u8>, usize), LexFault>
-    ensures value { spec.Gives (spec.literal false text.now) result }
+    ensures value { spec.IsLiteralOf (spec.literal false text.now) result }
     ensures within { IfOk result (λ p. p.1 ≤ length text.now) }
 {
     let mut out = Items::new(alloc);
@@ -269,7 +269,7 @@ pub fn block_comment(mut text: &[u8]) -> Option<usize>
     None
 }
 
-/// Whether the byte is in front.
+/// Whether the text begins with the byte.
 pub fn begins(b: u8, text: &[u8]) -> bool
     ensures { result ≡ begins b text.now }
 {

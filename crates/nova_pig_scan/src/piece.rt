@@ -1,4 +1,4 @@
-//! The piece that is in front of a text.
+//! The piece that a text begins with.
 
 ghost use Rattle.std.specs.Prelude.{◌≡◌, ℕ, ◌+◌, ◌≤◌, ◌∷◌, length, drop, IfOk, true, false};
 ghost use Rattle.std.specs.Char.{is_ascii_alphabetic};
@@ -8,15 +8,17 @@ ghost use Rattle.nova_pig_scan.specs.Lexemes.{IsName, begins};
 ghost use Rattle.nova_pig_scan.specs.Lex.{literal, symbol};
 ghost use Rattle.nova_pig_scan.specs.Tokens as spec;
 
+use crate::MAX_SCRIPT_BYTES;
 use crate::lex::{
     Class, LexFault, TOO_LARGE, begins, block_comment, class_of, digit_len, digits_value, keyword,
     line_len, literal, same_word, symbol_at, word_len,
 };
 use nova_pig_tree::{Str, Symbol, Token};
+use nova_value::MAX_TEXT_BYTES;
 use std::alloc::{AllocError, Global};
 use std::str::from_utf8;
 
-/// What is in front of a text, and how many bytes it takes.
+/// What a text begins with, and how many bytes it takes.
 #[derive(Drop)]
 pub enum Piece {
     /// The text is at its end.
@@ -82,7 +84,7 @@ fn word_token(alloc: Global, word: &[u8]) -> Result<Token, AllocError>
     }
     match keyword(word) {
         Some(found) => Ok(Token::Word(found)),
-        None if word.len() > 65_535 => Ok(Token::LongName),
+        None if word.len() > MAX_TEXT_BYTES => Ok(Token::LongName),
         None => Ok(Token::Ident(text_of(alloc, word)?)),
     }
 }
@@ -133,14 +135,14 @@ fn position(rest: &[u8]) -> Piece
 
 /// A literal after its opening quote.
 fn quoted(alloc: Global, rest: &[u8]) -> Result<Piece, AllocError>
-    requires short { length rest.now ≤ 65535 }
+    requires short { length rest.now ≤ MAX_TEXT_BYTES }
     requires utf8 { is_utf8 rest.now ≡ true }
     ensures { IfOk result (λ p. p ≡ spec.quoted (literal false rest.now)) }
 {
     match literal(alloc, rest) {
         Ok((text, n)) => Ok(Piece::Take(Token::Literal(text_of(alloc, text.as_slice())?), n + 1)),
         Err(LexFault::Token) => Ok(Piece::Bad),
-        Err(LexFault::Memory) => Err(AllocError),
+        Err(LexFault::NoMemory) => Err(AllocError),
     }
 }
 
@@ -154,9 +156,9 @@ fn symbol(text: &[u8]) -> Piece
     }
 }
 
-/// The piece in front.
+/// The piece that the text begins with.
 pub fn piece_at(alloc: Global, text: &[u8]) -> Result<Piece, AllocError>
-    requires short { length text.now ≤ 65536 }
+    requires short { length text.now ≤ MAX_SCRIPT_BYTES }
     requires utf8 { begins 39 text.now ≡ true → is_utf8 (drop 1 text.now) ≡ true }
     ensures { IfOk result (λ p. p ≡ spec.piece text.now) }
 {

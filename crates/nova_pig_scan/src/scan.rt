@@ -6,6 +6,7 @@ ghost use Rattle.nova_pig_scan.specs.Text.{IsTokens, FailsAt, OneLexeme, TextsAr
 ghost use Rattle.nova_pig_scan.specs.declared.scan.Cause.{Cause};
 ghost use Rattle.nova_pig_tree.specs.declared.token.Placed.{Placed};
 
+use crate::MAX_SCRIPT_BYTES;
 use crate::piece::{Piece, piece_at};
 use nova_pig_tree::Placed;
 use sqlite_items::Items;
@@ -25,18 +26,18 @@ pub enum Cause {
 pub enum TextFault {
     /// The first fault, and its byte place.
     At(Cause, u64),
-    /// There was no memory for the tokens.
-    Memory,
+    /// Out of memory.
+    NoMemory,
 }
 
 impl From<AllocError> for TextFault {
     ghost use Rattle.std.specs.Prelude.{◌≡◌};
-    ghost use Rattle.nova_pig_scan.specs.declared.scan.TextFault.TheVariants.{Memory};
+    ghost use Rattle.nova_pig_scan.specs.declared.scan.TextFault.TheVariants.{NoMemory};
 
-    ghost from_gives = { λ _ e. e ≡ Memory };
+    ghost from_gives = { λ _ e. e ≡ NoMemory };
 
     fn from(_error: AllocError) -> TextFault {
-        TextFault::Memory
+        TextFault::NoMemory
     }
 }
 
@@ -51,8 +52,8 @@ fn text_from(text: &[u8], at: usize) -> &[u8]
 /// The tokens of a text of at most 65,536 bytes, or its first fault. Each byte is looked at by one
 /// piece.
 pub fn scan_text(alloc: Global, text: &str) -> Result<Items<Placed>, TextFault>
-    requires { length text.now ≤ 65536 }
-    ensures { spec.Gives (spec.tokens text.now) result }
+    requires { length text.now ≤ MAX_SCRIPT_BYTES }
+    ensures { spec.AreTokensOf (spec.tokens text.now) result }
 {
     let bytes = text.as_bytes();
     let mut out = Items::new(alloc);
@@ -78,11 +79,11 @@ pub fn scan_text(alloc: Global, text: &str) -> Result<Items<Placed>, TextFault>
 /// The tokens of a text of at most 65,536 bytes, or its first fault, each exactly where the
 /// relations say.
 pub fn tokens_of(alloc: Global, text: &str) -> Result<Items<Placed>, TextFault>
-    requires { length text.now ≤ 65536 }
+    requires { length text.now ≤ MAX_SCRIPT_BYTES }
     ensures found { IfOk result (λ ps. IsTokens 0 text.now ps) }
-    ensures complete { (ps : List Placed) → IsTokens 0 text.now ps → MatchResult result (λ found. found ≡ ps) (λ e. e ≡ TextFault.Memory) }
-    ensures fault { MatchResult result (λ _. Unit {0}) (λ e. (e ≡ TextFault.Memory → ⊥) → (c : Cause) × (place : ℕ) × (e ≡ TextFault.At c place) × FailsAt 0 text.now c place) }
-    ensures only { (c : Cause) (place : ℕ) → FailsAt 0 text.now c place → MatchResult result (λ _. ⊥) (λ e. (e ≡ TextFault.Memory → ⊥) → e ≡ TextFault.At c place) }
+    ensures complete { (ps : List Placed) → IsTokens 0 text.now ps → MatchResult result (λ found. found ≡ ps) (λ e. e ≡ TextFault.NoMemory) }
+    ensures fault { MatchResult result (λ _. Unit {0}) (λ e. (e ≡ TextFault.NoMemory → ⊥) → (c : Cause) × (place : ℕ) × (e ≡ TextFault.At c place) × FailsAt 0 text.now c place) }
+    ensures only { (c : Cause) (place : ℕ) → FailsAt 0 text.now c place → MatchResult result (λ _. ⊥) (λ e. (e ≡ TextFault.NoMemory → ⊥) → e ≡ TextFault.At c place) }
 {
     scan_text(alloc, text)
 }

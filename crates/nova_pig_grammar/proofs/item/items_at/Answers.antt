@@ -1,10 +1,10 @@
 use Rattle.std.proofs.Common.{rules, arith, Some, length, ap, sym, ◌∙◌}
 use Rattle.std.proofs.lemmas.Grind.{common_steps}
-use Rattle.nova_pig_statement.specs.Reads.{ahead, more}
-use Rattle.nova_pig_statement.specs.Reads.{item_at}
-use Rattle.nova_pig_statement.proofs.Lists.{turn, fault, last}
-use Rattle.nova_pig_statement.proofs.Shrink.{item-no_longer}
-use Rattle.nova_pig_statement.proofs.item.items_at.Goals as goal
+use Rattle.nova_pig_grammar.specs.StatementReading.{ahead, more}
+use Rattle.nova_pig_grammar.specs.StatementReading.{item_at}
+use Rattle.nova_pig_grammar.proofs.Lists.{turn, fault, last}
+use Rattle.nova_pig_grammar.proofs.Shrink.{item-no_longer}
+use Rattle.nova_pig_grammar.proofs.item.items_at.Goals as goal
 
 pub returns-in_err-item_at-2 : goal.returns-in_err-item_at-2
 returns-in_err-item_at-2 c =

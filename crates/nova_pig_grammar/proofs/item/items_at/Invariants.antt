@@ -1,7 +1,7 @@
 use Rattle.std.proofs.Common.{◌≡◌, length}
-use Rattle.nova_pig_statement.specs.Reads.{listed, ahead, more}
-use Rattle.nova_pig_statement.specs.Reads.{item_at}
-use Rattle.nova_pig_statement.proofs.item.items_at.Given as goal
+use Rattle.nova_pig_grammar.specs.StatementReading.{listed, ahead, more}
+use Rattle.nova_pig_grammar.specs.StatementReading.{item_at}
+use Rattle.nova_pig_grammar.proofs.item.items_at.Given as goal
 
 abbrev pub invariant-loop-alloc : goal.invariant-loop-alloc
 invariant-loop-alloc l = listed item_at l.fn.parser ≡ ahead l.out (more item_at l.parser)

@@ -1,7 +1,7 @@
 use Rattle.std.proofs.Common.{◌≡◌, length}
-use Rattle.nova_pig_statement.specs.Reads.{listed, ahead, more}
-use Rattle.nova_pig_statement.specs.Reads.{name_at}
-use Rattle.nova_pig_statement.proofs.item.names_at.Given as goal
+use Rattle.nova_pig_grammar.specs.StatementReading.{listed, ahead, more}
+use Rattle.nova_pig_grammar.specs.StatementReading.{name_at}
+use Rattle.nova_pig_grammar.proofs.item.names_at.Given as goal
 
 abbrev pub invariant-loop-alloc : goal.invariant-loop-alloc
 invariant-loop-alloc l = listed name_at l.fn.parser ≡ ahead l.out (more name_at l.parser)

@@ -1,5 +1,5 @@
-use Rattle.nova_pig_expr.proofs.Whole.{one_reading_law}
-use Rattle.nova_pig_expr.proofs.read.one_reading.Goals as goal
+use Rattle.nova_pig_grammar.proofs.ExpressionComplete as complete
+use Rattle.nova_pig_grammar.proofs.read.one_reading.Goals as goal
 
 pub returns : goal.returns
-returns c = one_reading_law
+returns c = λ p ts x y d e. complete.one_reading d e

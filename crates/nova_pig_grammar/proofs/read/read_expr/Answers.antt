@@ -1,7 +1,7 @@
 use Rattle.std.proofs.Common.{rules, arith, map}
 use Rattle.std.proofs.lemmas.Grind.{common_steps}
-use Rattle.nova_pig_expr.proofs.Whole.{all_sound, all_value, all_rest, all_fault}
-use Rattle.nova_pig_expr.proofs.read.read_expr.Goals as goal
+use Rattle.nova_pig_grammar.proofs.ExpressionWhole.{all_sound, all_value, all_rest, all_fault}
+use Rattle.nova_pig_grammar.proofs.read.read_expr.Goals as goal
 
 pub returns-in_err-found-clause-complete : goal.returns-in_err-found-clause-complete
 returns-in_err-found-clause-complete c = λ x d.

@@ -1,5 +1,5 @@
-use Rattle.nova_pig_statement.proofs.Whole.{found_cut, given_cut}
-use Rattle.nova_pig_statement.proofs.statement.statement_body.Goals as goal
+use Rattle.nova_pig_grammar.proofs.StatementSound.{found_cut, given_cut}
+use Rattle.nova_pig_grammar.proofs.statement.statement_body.Goals as goal
 
 pub returns-clause-sound : goal.returns-clause-sound
 returns-clause-sound c = found_cut _ _ c.cut_body.ensures

@@ -1,7 +1,7 @@
 use Rattle.std.proofs.Common.{rules, arith}
 use Rattle.std.proofs.lemmas.Grind.{common_steps}
-use Rattle.nova_pig_expr.proofs.Next.{comp_at, left_at}
-use Rattle.nova_pig_expr.proofs.parser.Parser.+parser.Goals as goal
+use Rattle.nova_pig_grammar.proofs.Next.{comp_at, left_at}
+use Rattle.nova_pig_grammar.proofs.parser.Parser.+parser.Goals as goal
 
 pub comp-returns-in_err-a-clause-reading : goal.comp-returns-in_err-a-clause-reading
 comp-returns-in_err-a-clause-reading t c = let e = comp_at c.args.self.now in first_of (search rules, grind (arith, common_steps))

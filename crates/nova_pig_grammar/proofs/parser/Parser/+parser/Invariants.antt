@@ -1,7 +1,7 @@
 use Rattle.std.proofs.Common.{◌≡◌, ◌+◌, ◌*◌, ◌<◌, length}
-use Rattle.nova_pig_expr.specs.Reading.{read, At, After, rank}
-use Rattle.nova_pig_expr.specs.Grammar.{Left, Neg, Comp, Unary, Primary, operand}
-use Rattle.nova_pig_expr.proofs.parser.Parser.+parser.Given as goal
+use Rattle.nova_pig_grammar.specs.ExpressionReading.{read, At, After, rank}
+use Rattle.nova_pig_grammar.specs.Expression.{Left, Neg, Comp, Unary, Primary, operand}
+use Rattle.nova_pig_grammar.proofs.parser.Parser.+parser.Given as goal
 
 abbrev pub decreases-left : goal.decreases-left
 decreases-left l = 20 * length l.self.now + 2 * rank (At (Left l.level))

@@ -1,7 +1,7 @@
 use Rattle.std.proofs.Common.{rules, sym, ap, map, ◌∙◌}
 use Rattle.std.proofs.lemmas.List.{length-map}
-use Rattle.nova_pig_expr.proofs.Next as next
-use Rattle.nova_pig_expr.proofs.parser.Parser.eat_not.Goals as goal
+use Rattle.nova_pig_grammar.proofs.Next as next
+use Rattle.nova_pig_grammar.proofs.parser.Parser.eat_not.Goals as goal
 
 pub returns-in_default : goal.returns-in_default
 returns-in_default c = next.not_end (rw (← c.self.view_is) (rw length-map (search rules)))

@@ -86,7 +86,7 @@ impl<'a> Parser<'a> {
         Some(&first.token)
     }
 
-    /// Takes an expression, the longest that stands in prefix.
+    /// Takes an expression, the longest that the tokens begin with.
     pub fn whole(&mut self, alloc: Global) -> Result<Boxed<Expr>, Fault>
         ensures { Answers (read (At whole) self.old) result self.new }
     {

@@ -119,18 +119,19 @@ item_same (Group bag by cs) m k h (item.Value x name kind) = value_same (Group b
 
 items_same : (s : Scope) (m k : Made) → Same m k → (is : List Item) → SameAnswer (all.items_of s m is) (kept.items_of s k is)
 items_same s m k h [] = h
-items_same s m k h (i ∷ is) = go (all.item_of s m i) (kept.item_of s k i) (item_same s m k h i)
+items_same s m k h (i ∷ is) = go (λ n l g. items_same s n l g is) (all.item_of s m i) (kept.item_of s k i) (item_same s m k h i)
   where
-    go : (a b : Answer Made) → SameAnswer a b → SameAnswer (first a (λ z. all.items_of s z is)) (first b (λ z. kept.items_of s z is))
-    go (Ok n) (Ok l) g = items_same s n l g is
-    go (Err c) (Err d) g = g
-    go (Ok n) (Err d) g = absurd g
-    go (Err c) (Ok l) g = absurd g
+    go : ((n l : Made) → Same n l → SameAnswer (all.items_of s n is) (kept.items_of s l is)) → (a b : Answer Made) → SameAnswer a b
+        → SameAnswer (first a (λ z. all.items_of s z is)) (first b (λ z. kept.items_of s z is))
+    go rest (Ok n) (Ok l) g = rest n l g
+    go rest (Err c) (Err d) g = g
+    go rest (Ok n) (Err d) g = absurd g
+    go rest (Err c) (Ok l) g = absurd g
 
 too_wide : (n : Node) (m : Made) → IsWide m → defined n m.columns ≡ Err fault.TooWide
 too_wide n m h = go (nat_le (length m.columns) 64) refl
   where
-    go : (b : Bool) → nat_le (length m.columns) 64 ≡ b → if_not fault.TooWide b (record { node = n; scope = Rows m.columns }) ≡ Err fault.TooWide
+    go : (b : Bool) → nat_le (length m.columns) 64 ≡ b → if_not {A = Defined} fault.TooWide b (record { node = n; scope = Rows m.columns }) ≡ Err fault.TooWide
     go true e = absurd (grind (arith, nat_tests, e, h))
     go false e = refl
 

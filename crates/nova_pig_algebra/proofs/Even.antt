@@ -8,12 +8,13 @@ use Rattle.nova_pig_algebra.specs.declared.node.Node.{Node}
 use Rattle.nova_pig_algebra.specs.declared.node.Node.TheVariants as node
 use Rattle.nova_pig_algebra.specs.declared.node.Sort.{Sort}
 use Rattle.nova_pig_algebra.specs.declared.node.Sort.TheVariants.{Of, Condition}
-use Rattle.nova_pig_algebra.specs.Tree.{Tree, Nothing, Load, Filter, Join, Union, Distinct, End, Arm, tree_at, arms_at, foreach_tree, tree_of, trees_after}
+use Rattle.nova_pig_algebra.specs.Tree.{Tree, Nothing, Load, Filter, Join, Union, Distinct, End, Arm, tree_at, arms_at, foreach_tree, tree_of, trees_after, trees}
 use Rattle.nova_pig_algebra.specs.Sorts.{Over, Row, Bag, has, is_condition, sort_of}
 use Rattle.nova_pig_algebra.specs.Kinds.{same_kind, with_kind, item_kinds, kinds_at, as_rows, as_bag, filter_over, foreach_over, group_over, distinct_over, same_list, join_over, are_rows, all_rows, union_over, node_over, and_then, nodes_over}
 use Rattle.nova_pig_algebra.specs.Keys.{facts, arm_facts, shape_at, none_constant, unknowns}
 use Rattle.nova_pig_algebra.specs.Plan.{Plan, IsKinded, kinds_of_inputs, tree_of_plan}
 use Rattle.nova_pig_algebra.proofs.Sets.{both_true}
+use Rattle.nova_pig_algebra.proofs.KindsOfNodes.{rows_of_kinds, filter_from, distinct_from, foreach_from, group_from, join_from, union_from}
 use Rattle.nova_pig_algebra.proofs.Keyed.{IsEven, AreEven, AreWide}
 
 mapped_length : {A B : Type 0} (f : A → B) (xs : List A) → length (map f xs) ≡ length xs
@@ -34,80 +35,8 @@ item_count o (x ∷ items) ks e = step (sort_of o x) (item_kinds o items) refl e
     step (Some Condition) r a f go = absurd cc
     step None r a f go = absurd cc
 
-same_length : (ks js : List Kind) → same_list (Some ks) (Some js) ≡ true → length ks ≡ length js
-same_length [] [] e = refl
-same_length [] (j ∷ js) e = absurd cc
-same_length (k ∷ ks) [] e = absurd cc
-same_length (k ∷ ks) (j ∷ js) e = let rest = same_length ks js (both_true (same_kind k j) (same_list (Some ks) (Some js)) e).1 in omega arith
-
-filter_from : (cond : PlanExpr) (x : Option Over) (o : Over) → filter_over cond x ≡ Some o → x ≡ Some o
-filter_from cond (Some (Row ks)) o e = step (has is_condition (sort_of (Row ks) cond)) e
-  where
-    step : (b : Bool) → (if b then Some (Row ks) else None) ≡ Some o → Some (Row ks) ≡ Some o
-    step true f = f
-    step false f = absurd cc
-filter_from cond (Some (Bag by ks)) o e = absurd cc
-filter_from cond None o e = absurd cc
-
-distinct_from : (x : Option Over) (o : Over) → distinct_over x ≡ Some o → x ≡ Some o
-distinct_from (Some (Row ks)) o e = e
-distinct_from (Some (Bag by ks)) o e = absurd cc
-distinct_from None o e = absurd cc
-
-foreach_from : (items : List PlanExpr) (x : Option Over) (o : Over) → foreach_over items x ≡ Some o → (ks : List Kind) × (o ≡ Row ks) × (length items ≡ length ks)
-foreach_from items None o e = absurd cc
-foreach_from items (Some p) o e = step (item_kinds p items) refl e
-  where
-    step : (r : Option (List Kind)) → item_kinds p items ≡ r → as_rows r ≡ Some o → (ks : List Kind) × (o ≡ Row ks) × (length items ≡ length ks)
-    step None a f = absurd cc
-    step (Some ks) a f = let is : Row ks ≡ o = cc in (ks, sym is, item_count p items ks a)
-
-group_from : (by : List ℕ) (x : Option Over) (o : Over) → group_over by x ≡ Some o → (bs : List Kind) × (ks : List Kind) × (o ≡ Bag bs ks)
-group_from by (Some (Row ks)) o e = step (kinds_at ks by) e
-  where
-    step : (r : Option (List Kind)) → as_bag ks r ≡ Some o → (bs : List Kind) × (ks : List Kind) × (o ≡ Bag bs ks)
-    step None f = absurd cc
-    step (Some bs) f = let is : Bag bs ks ≡ o = cc in (bs, ks, sym is)
-group_from by (Some (Bag bs ks)) o e = absurd cc
-group_from by None o e = absurd cc
-
-record Sides (x y : Option Over) (o : Over) : Type 0 where
-  left : List Kind
-  right : List Kind
-  on_left : x ≡ Some (Row left)
-  on_right : y ≡ Some (Row right)
-  is : o ≡ Row (left ++ right)
-
-join_from : (lb rb : List ℕ) (x y : Option Over) (o : Over) → join_over lb rb x y ≡ Some o → Sides x y o
-join_from lb rb (Some (Row ks)) (Some (Row js)) o e = step (same_list (kinds_at ks lb) (kinds_at js rb)) e
-  where
-    step : (b : Bool) → (if b then Some (Row (ks ++ js)) else None) ≡ Some o → Sides (Some (Row ks)) (Some (Row js)) o
-    step true f = let is : Row (ks ++ js) ≡ o = cc in record { left = ks; right = js; on_left = refl; on_right = refl; is = sym is }
-    step false f = absurd cc
-join_from lb rb (Some (Row ks)) (Some (Bag bs js)) o e = absurd cc
-join_from lb rb (Some (Row ks)) None o e = absurd cc
-join_from lb rb (Some (Bag bs ks)) y o e = absurd cc
-join_from lb rb None y o e = absurd cc
-
-record AllArms (done : List Over) (arms : List ℕ) (x : Option Over) (o : Over) : Type 0 where
-  kinds_of : List Kind
-  first : x ≡ Some (Row kinds_of)
-  all : all_rows done kinds_of arms ≡ true
-  is : o ≡ Row kinds_of
-
-union_from : (done : List Over) (arms : List ℕ) (x : Option Over) (o : Over) → union_over done arms x ≡ Some o → AllArms done arms x o
-union_from done arms (Some (Row ks)) o e = step (all_rows done ks arms) refl e
-  where
-    step : (b : Bool) → all_rows done ks arms ≡ b → (if b then Some (Row ks) else None) ≡ Some o → AllArms done arms (Some (Row ks)) o
-    step true a f = let is : Row ks ≡ o = cc in record { kinds_of = ks; first = refl; all = a; is = sym is }
-    step false a f = absurd cc
-union_from done arms (Some (Bag bs ks)) o e = absurd cc
-union_from done arms None o e = absurd cc
-
-rows_from : (ks : List Kind) (x : Option Over) → are_rows ks x ≡ true → (js : List Kind) × (x ≡ Some (Row js)) × (length ks ≡ length js)
-rows_from ks (Some (Row js)) e = (js, refl, same_length ks js e)
-rows_from ks (Some (Bag bs js)) e = absurd cc
-rows_from ks None e = absurd cc
+same_over : (x : Option Over) (ks : List Kind) (o : Over) → x ≡ Some (Row ks) → o ≡ Row ks → x ≡ Some o
+same_over x ks o e f = e ∙ ap (λ (p : Over). let q : Option Over = Some p in q) (sym f)
 
 module _ (inputs : List Shape) where
   width : Tree → ℕ
@@ -163,8 +92,7 @@ module _ (inputs : List Shape) where
     arms_wide ks [] e = tt
     arms_wide ks (a ∷ arms) e =
         let p = both_true (are_rows ks (slice_get overs a)) (all_rows overs ks arms) e in
-        let r = rows_from ks (slice_get overs a) p.0 in
-        (s.wide a (Row r.0) r.1 ∙ sym r.2, arms_wide ks arms p.1)
+        (s.wide a (Row ks) (rows_of_kinds ks (slice_get overs a) p.0), arms_wide ks arms p.1)
 
     record Next (t : Tree) (o : Over) : Type 0 where
       even : IsEven inputs t
@@ -175,7 +103,7 @@ module _ (inputs : List Shape) where
     foreach_even from items (Some (node.Load i)) ks e = record { even = s.even from; wide = mapped_length _ items ∙ e }
     foreach_even from items (Some (node.Filter f c)) ks e = record { even = s.even from; wide = mapped_length _ items ∙ e }
     foreach_even from items (Some (node.Foreach f is)) ks e = record { even = s.even from; wide = mapped_length _ items ∙ e }
-    foreach_even from items (Some (node.Group source columns)) ks e = record { even = s.even source; wide = unknown_count (length items) ∙ e }
+    foreach_even from items (Some (node.Group source columns)) ks e = record { even = s.even source; wide = mapped_length _ items ∙ e }
     foreach_even from items (Some (node.Join l lb r rb)) ks e = record { even = s.even from; wide = mapped_length _ items ∙ e }
     foreach_even from items (Some (node.Union arms)) ks e = record { even = s.even from; wide = mapped_length _ items ∙ e }
     foreach_even from items (Some (node.Distinct f)) ks e = record { even = s.even from; wide = mapped_length _ items ∙ e }
@@ -183,13 +111,14 @@ module _ (inputs : List Shape) where
     node_even : (nodes : List Node) (n : Node) (o : Over) → node_over (kinds_of_inputs inputs) overs n ≡ Some o → Next (tree_of nodes done n) o
     node_even nodes (node.Load i) o e = record { even = tt; wide = load_wide i (slice_get (kinds_of_inputs inputs) i) o refl e }
     node_even nodes (node.Filter from cond) o e =
-        record { even = s.even from; wide = wide_same (tree_at done from) (Filter (tree_at done from) cond) o refl (s.wide from o (filter_from cond (slice_get overs from) o e)) }
+        let p = filter_from cond (slice_get overs from) o e in
+        record { even = s.even from; wide = wide_same (tree_at done from) (Filter (tree_at done from) cond) o refl (s.wide from o (same_over (slice_get overs from) p.0 o p.1 p.2)) }
     node_even nodes (node.Foreach from items) o e =
         let p = foreach_from items (slice_get overs from) o e in
-        subst (λ z. Next (foreach_tree done from items (slice_get nodes from)) z) (sym p.1) (foreach_even from items (slice_get nodes from) p.0 p.2)
+        subst (λ z. Next (foreach_tree done from items (slice_get nodes from)) z) (sym p.is) (foreach_even from items (slice_get nodes from) p.made_of (item_count p.source items p.made_of p.each))
     node_even nodes (node.Group from by) o e =
         let p = group_from by (slice_get overs from) o e in
-        subst (λ z. Next Nothing z) (sym p.2) (record { even = tt; wide = tt })
+        subst (λ z. Next Nothing z) (sym p.is) (record { even = tt; wide = tt })
     node_even nodes (node.Join l lb r rb) o e =
         let p = join_from lb rb (slice_get overs l) (slice_get overs r) o e in
         let a = s.wide l (Row p.left) p.on_left in
@@ -203,15 +132,16 @@ module _ (inputs : List Shape) where
         subst (λ z. Next (Union End) z) is (record { even = (tt, tt); wide = refl })
     node_even nodes (node.Union (a ∷ arms)) o e =
         let p = union_from overs (a ∷ arms) (slice_get overs a) o e in
-        let w = s.wide a (Row p.kinds_of) p.first in
-        let q = both_true (are_rows p.kinds_of (slice_get overs a)) (all_rows overs p.kinds_of arms) p.all in
+        let w = s.wide a (Row p.own) p.first in
+        let q = both_true (are_rows p.own (slice_get overs a)) (all_rows overs p.own arms) p.all in
         let t = Union (Arm (tree_at done a) (arms_at done arms)) in
         subst (λ z. Next t z) (sym p.is) (record {
-          even = ((s.even a, arms_even arms), subst (λ n. AreWide n (arm_facts inputs (arms_at done arms))) (sym w) (arms_wide p.kinds_of arms q.1));
+          even = ((s.even a, arms_even arms), subst (λ n. AreWide n (arm_facts inputs (arms_at done arms))) (sym w) (arms_wide p.own arms q.1));
           wide = unknown_count (length (facts inputs (tree_at done a)).constants) ∙ w;
         })
     node_even nodes (node.Distinct from) o e =
-        record { even = s.even from; wide = wide_same (tree_at done from) (Distinct (tree_at done from)) o refl (s.wide from o (distinct_from (slice_get overs from) o e)) }
+        let p = distinct_from (slice_get overs from) o e in
+        record { even = s.even from; wide = wide_same (tree_at done from) (Distinct (tree_at done from)) o refl (s.wide from o (same_over (slice_get overs from) p.0 o p.1 p.2)) }
 
     one_more : (t : Tree) (o : Over) → Next t o → Sound (done ++ t ∷ []) (overs ++ o ∷ [])
     one_more t o n = record {
@@ -235,7 +165,10 @@ module _ (inputs : List Shape) where
   at_first : Sound [] []
   at_first = record { same = refl; even = λ k. tt; wide = λ k o e. absurd cc }
 
+pub nodes_even : (p : Plan) → IsKinded p → (k : ℕ) → IsEven p.inputs (tree_at (trees p.nodes) k)
+nodes_even p is k =
+    let s = all_sound p.inputs p.nodes [] [] (at_first p.inputs) p.nodes is.all is.nodes in
+    s.even k
+
 pub plan_even : (p : Plan) → IsKinded p → IsEven p.inputs (tree_of_plan p)
-plan_even p k =
-    let s = all_sound p.inputs p.nodes [] [] (at_first p.inputs) p.nodes k.all k.nodes in
-    s.even p.stored
+plan_even p is = nodes_even p is p.stored

@@ -1,5 +1,5 @@
 -- Plain items: what a FOREACH keeps of columns and of constants.
-use Rattle.std.specs.Prelude.{◌≡◌, ℕ, suc, ◌+◌, Bool, true, false, if◌then◌else◌, List, [], ◌∷◌, map, length, slice_get, Option, Some, None, refl}
+use Rattle.std.specs.Prelude.{◌≡◌, ℕ, suc, ◌+◌, Bool, true, false, if◌then◌else◌, List, [], ◌∷◌, slice_get, Option, Some, None, refl}
 use Rattle.std.proofs.Common.{ap, sym, ◌∙◌, inl, inr, subst, eqb-true, arith}
 use Rattle.nova_value.specs.declared.value.Value.{Value}
 use Rattle.nova_value.specs.Rows.{value_at, key_at}
@@ -8,10 +8,10 @@ use Rattle.nova_pig_algebra.specs.declared.node.PlanExpr.TheOpen.{PlanExpr-F}
 use Rattle.nova_pig_algebra.specs.declared.node.PlanExpr.TheViews.{out-PlanExpr, roll-PlanExpr, roll-out-PlanExpr}
 use Rattle.nova_pig_algebra.specs.declared.node.PlanExpr.TheFolds.{fold-roll-PlanExpr}
 use Rattle.nova_pig_algebra.specs.Meaning.{Row, Calls, Given, given, given_step, value_of, made}
-use Rattle.nova_pig_algebra.specs.Keys.{with_column, Plain, Column, By, Constant, Computed, plain, plain_step, is_column, is_by, is_some, place_from, place_of, places_of, and_place, constant_at, item_constant}
+use Rattle.nova_pig_algebra.specs.Keys.{with_column, Plain, Column, By, Constant, Computed, plain, plain_step, is_column, is_by, is_some, place_from, place_of, places_of, and_place, constant_at, item_constant, item_constants}
 use Rattle.nova_pig_algebra.specs.Statements.{In}
 use Rattle.nova_pig_algebra.proofs.Sets.{Agree, with_in}
-use Rattle.nova_pig_algebra.proofs.Values.{IsConstant, HasConstants, constant_is, key_value}
+use Rattle.nova_pig_algebra.proofs.Values.{IsConstant, HasConstants, key_value}
 
 -- what a plain item gives
 abbrev Gives : Plain → PlanExpr → Type 0
@@ -77,10 +77,10 @@ place_gives test row f v ok items p e =
     subst (λ z. value_at (made items row f) z ≡ v) at r.2
 
 module _ (test : ℕ → Plain → Bool) (items : List PlanExpr) where
-  abbrev IsBoth : ℕ → List ℕ → List ℕ → Type 0
+  abbrev pub IsBoth : ℕ → List ℕ → List ℕ → Type 0
   IsBoth k key places = (p : ℕ) × (ps : List ℕ) × (place_of (test k) items ≡ Some p) × (places_of test items key ≡ Some ps) × (with_column p ps ≡ places)
 
-  both_of : (k : ℕ) (key places : List ℕ) → and_place (place_of (test k) items) (places_of test items key) ≡ Some places → IsBoth k key places
+  pub both_of : (k : ℕ) (key places : List ℕ) → and_place (place_of (test k) items) (places_of test items key) ≡ Some places → IsBoth k key places
   both_of k key places = go (place_of (test k) items) (places_of test items key) refl refl
     where
       go : (o : Option ℕ) (os : Option (List ℕ)) → place_of (test k) items ≡ o → places_of test items key ≡ os → and_place o os ≡ Some places → IsBoth k key places
@@ -89,7 +89,7 @@ module _ (test : ℕ → Plain → Bool) (items : List PlanExpr) where
       go None os a b e = absurd cc
 
   -- each key column has a place
-  places_to : (key places : List ℕ) → places_of test items key ≡ Some places → (k : ℕ) → In k key → (p : ℕ) × In p places × (place_of (test k) items ≡ Some p)
+  pub places_to : (key places : List ℕ) → places_of test items key ≡ Some places → (k : ℕ) → In k key → (p : ℕ) × In p places × (place_of (test k) items ≡ Some p)
   places_to [] places e k i = absurd i
   places_to (j ∷ key) places e k i =
       let b = both_of j key places e in
@@ -108,22 +108,18 @@ module _ (test : ℕ → Plain → Bool) (items : List PlanExpr) where
       let p = places_to key places e k i in
       sym (place_gives (test k) row f (value_at x k) (left k) items p.0 p.2) ∙ h p.0 p.1 ∙ place_gives (test k) other g (value_at y k) (right k) items p.0 p.2
 
--- rows that items make have the constants of the items
-pub made_has : (cs : List (Option Value)) (row : Row) (f : Calls) → HasConstants cs row → (items : List PlanExpr)
-    → HasConstants (map (λ e. item_constant cs (plain e)) items) (made items row f)
+-- rows that items make have the constants of the items, where the row has those to which they refer
+pub made_has : (cs : List (Option Value)) (row : Row) (f : Calls) → ((k : ℕ) (w : Value) → constant_at cs k ≡ Some w → value_at row k ≡ w) → (items : List PlanExpr)
+    → HasConstants (item_constants cs items) (made items row f)
 made_has cs row f has [] = tt
 made_has cs row f has (x ∷ items) = (go (plain x) (plain_gives x), made_has cs row f has items)
   where
     step : (k : ℕ) → ((row : Row) (f : Calls) → value_of x row f ≡ value_at row k) → (o : Option Value) → constant_at cs k ≡ o → IsConstant o (value_of x row f)
     step k g None e = tt
-    step k g (Some w) e = g row f ∙ constant_is cs row k w has e
+    step k g (Some w) e = g row f ∙ has k w e
 
     go : (p : Plain) → Gives p x → IsConstant (item_constant cs p) (value_of x row f)
     go (Column k) g = step k g (constant_at cs k) refl
     go (By k) g = tt
     go (Constant v) g = g row f
     go Computed g = tt
-
-pub made_width : (items : List PlanExpr) (row : Row) (f : Calls) → length (made items row f) ≡ length items
-made_width [] row f = refl
-made_width (x ∷ items) row f = let rest = made_width items row f in omega arith

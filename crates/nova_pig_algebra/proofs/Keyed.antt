@@ -10,12 +10,12 @@ use Rattle.nova_pig_algebra.specs.declared.node.PlanExpr.{PlanExpr}
 use Rattle.nova_pig_algebra.specs.Meaning.{Row, same_row, value_of, holds, made, no_calls, calls_over}
 use Rattle.nova_pig_algebra.specs.Tree.{Tree, Nothing, Load, Filter, Foreach, Grouped, Join, Union, Distinct, Arms, End, Arm, rows, arm_rows, rows_at, rising, members, joined, distinct}
 use Rattle.nova_pig_algebra.specs.declared.facts.Facts.{Facts}
-use Rattle.nova_pig_algebra.specs.Keys.{with_column, column_set, covers, columns_from, is_column, is_by, places_of, constant_at, foreach_key, join_key, in_arms, all_other, are_apart, first_apart, has_key, all_have, and_column, union_key, union_facts, or_all, shape_at, facts, arm_facts}
+use Rattle.nova_pig_algebra.specs.Keys.{with_column, column_set, covers, columns_from, is_column, is_by, item_constants, places_of, constant_at, foreach_key, join_key, in_arms, all_other, are_apart, first_apart, has_key, all_have, and_column, union_key, union_facts, or_all, shape_at, facts, arm_facts}
 use Rattle.nova_pig_algebra.specs.Statements.{In, Apart, Keyed, AreRowsOf, AreTables}
-use Rattle.nova_pig_algebra.proofs.Lists.{in_either, in_filtered, in_mapped, in_flattened, apart_filter, apart_within, apart_append, apart_map, apart_flat}
+use Rattle.nova_pig_algebra.proofs.Lists.{in_left, in_either, in_filtered, in_mapped, in_flattened, apart_filter, apart_within, apart_append, apart_map, apart_flat}
 use Rattle.nova_pig_algebra.proofs.Sets.{with_in, set_in, same_set, both_true, covered, in_columns, Agree, Unlike, agree_by, by_agree}
 use Rattle.nova_pig_algebra.proofs.Values.{at_either, at_right, same_values_at, HasConstants, width_of, constant_is, none_has, append_has, fit_width}
-use Rattle.nova_pig_algebra.proofs.Items.{refers, refers_by, made_agree, made_has, made_width}
+use Rattle.nova_pig_algebra.proofs.Items.{refers, refers_by, made_agree, made_has}
 use Rattle.nova_pig_algebra.proofs.Rising.{rising_differ, in_rising, in_distinct, distinct_apart, distinct_differ}
 
 -- ---- trees whose UNIONs have arms of one width
@@ -57,13 +57,13 @@ table_at (s ∷ inputs) (t ∷ tables) are zero = are.0
 table_at (s ∷ inputs) (t ∷ tables) are (suc i) = table_at inputs tables are.1 i
 
 -- ---- keys of UNION and JOIN
-record Parts (f : Facts) (fs : List Facts) (key : List ℕ) : Type 0 where
-  own : List ℕ
-  column : ℕ
-  first_key : f.key ≡ Some own
-  others : all_have own fs ≡ true
-  apart : are_apart (in_arms column (f ∷ fs)) ≡ true
-  is : with_column column own ≡ key
+pub record Parts (f : Facts) (fs : List Facts) (key : List ℕ) : Type 0 where
+  pub own : List ℕ
+  pub column : ℕ
+  pub first_key : f.key ≡ Some own
+  pub others : all_have own fs ≡ true
+  pub apart : are_apart (in_arms column (f ∷ fs)) ≡ true
+  pub is : with_column column own ≡ key
 
 first_is_apart : (fs : List Facts) (k n c : ℕ) → first_apart fs k n ≡ Some c → are_apart (in_arms c fs) ≡ true
 first_is_apart fs k zero c e = absurd cc
@@ -74,7 +74,7 @@ first_is_apart fs k (suc n) c e = step (are_apart (in_arms k fs)) refl e (first_
     step true is f go = let same : k ≡ c = cc in subst (λ z. are_apart (in_arms z fs) ≡ true) same is
     step false is f go = go f
 
-union_parts : (f : Facts) (fs : List Facts) (key : List ℕ) → (union_facts (f ∷ fs)).key ≡ Some key → Parts f fs key
+pub union_parts : (f : Facts) (fs : List Facts) (key : List ℕ) → (union_facts (f ∷ fs)).key ≡ Some key → Parts f fs key
 union_parts f fs key e = step f.key refl e
   where
     column : (own : List ℕ) → f.key ≡ Some own → all_have own fs ≡ true → (o : Option ℕ) → first_apart (f ∷ fs) 0 (length f.constants) ≡ o → and_column o own ≡ Some key → Parts f fs key
@@ -91,11 +91,11 @@ union_parts f fs key e = step f.key refl e
     step None a h = absurd cc
     step (Some own) a h = had own a (all_have own fs) refl h
 
-data JoinParts (right_by : List ℕ) (width : ℕ) (left right : Option (List ℕ)) (key : List ℕ) : Type 0 where
+pub data JoinParts (right_by : List ℕ) (width : ℕ) (left right : Option (List ℕ)) (key : List ℕ) : Type 0 where
   Covered : (r : List ℕ) → left ≡ Some key → right ≡ Some r → covers right_by r ≡ true → JoinParts right_by width left right key
   Both : (l r : List ℕ) → left ≡ Some l → right ≡ Some r → l ++ map (λ k. width + k) r ≡ key → JoinParts right_by width left right key
 
-join_parts : (right_by : List ℕ) (width : ℕ) (left right : Option (List ℕ)) (key : List ℕ) → join_key right_by width left right ≡ Some key → JoinParts right_by width left right key
+pub join_parts : (right_by : List ℕ) (width : ℕ) (left right : Option (List ℕ)) (key : List ℕ) → join_key right_by width left right ≡ Some key → JoinParts right_by width left right key
 join_parts right_by width None right key e = absurd cc
 join_parts right_by width (Some l) None key e = absurd cc
 join_parts right_by width (Some l) (Some r) key e = step (covers right_by r) refl e
@@ -103,11 +103,6 @@ join_parts right_by width (Some l) (Some r) key e = step (covers right_by r) ref
     step : (b : Bool) → covers right_by r ≡ b → (if b then Some l else Some (l ++ map (λ k. width + k) r)) ≡ Some key → JoinParts right_by width (Some l) (Some r) key
     step true is f = let same : l ≡ key = cc in Covered r (ap Some same) refl is
     step false is f = let same : l ++ map (λ k. width + k) r ≡ key = cc in Both l r refl refl same
-
-in_front : {X : Type 0} (x : X) (xs ys : List X) → In x xs → In x (xs ++ ys)
-in_front x [] ys h = absurd h
-in_front x (y ∷ xs) ys (inl e) = inl e
-in_front x (y ∷ xs) ys (inr h) = inr (in_front x xs ys h)
 
 in_back : {X : Type 0} (x : X) (xs ys : List X) → In x ys → In x (xs ++ ys)
 in_back x [] ys h = h
@@ -125,11 +120,11 @@ left_agree key a b c d e h k i = at_either a b c d k e (h k i)
 right_agree : (n : ℕ) (key : List ℕ) (a b c d : Row) → length a ≡ n → length c ≡ n → Agree (map (λ k. n + k) key) (a ++ b) (c ++ d) → Agree key b d
 right_agree n key a b c d e f h k i = sym (at_right a b n k e) ∙ h (n + k) (in_map (λ z. n + z) k key i) ∙ at_right c d n k f
 
-has_is : (key : List ℕ) (o : Option (List ℕ)) → has_key key o ≡ true → o ≡ Some key
+pub has_is : (key : List ℕ) (o : Option (List ℕ)) → has_key key o ≡ true → o ≡ Some key
 has_is key None e = absurd cc
 has_is key (Some other) e = ap Some (same_set other key e)
 
-differs : (v w : Value) → not (eq_by_cmp value_cmp v w) ≡ true → v ≡ w → ⊥
+pub differs : (v w : Value) → not (eq_by_cmp value_cmp v w) ≡ true → v ≡ w → ⊥
 differs v w e same = not_both (eq_by_cmp value_cmp v w) ((same_values v w).1 same) e
   where
     not_both : (b : Bool) → b ≡ true → not b ≡ true → ⊥
@@ -140,20 +135,20 @@ either_of : {A B C : Type 0} → (A → C) → (B → C) → A ⊎ B → C
 either_of f g (inl a) = f a
 either_of f g (inr b) = g b
 
-foreach_parts : (items : List PlanExpr) (o : Option (List ℕ)) (key : List ℕ) → foreach_key items o ≡ Some key → (own : List ℕ) × (o ≡ Some own) × (places_of is_column items own ≡ Some key)
+pub foreach_parts : (items : List PlanExpr) (o : Option (List ℕ)) (key : List ℕ) → foreach_key items o ≡ Some key → (own : List ℕ) × (o ≡ Some own) × (places_of is_column items own ≡ Some key)
 foreach_parts items None key e = absurd cc
 foreach_parts items (Some own) key e = (own, refl, e)
 
-distinct_parts : (all : List ℕ) (o : Option (List ℕ)) (key : List ℕ) → or_all all o ≡ Some key → (o ≡ Some key) ⊎ (all ≡ key)
+pub distinct_parts : (all : List ℕ) (o : Option (List ℕ)) (key : List ℕ) → or_all all o ≡ Some key → (o ≡ Some key) ⊎ (all ≡ key)
 distinct_parts all None key e = let same : all ≡ key = cc in inr same
 distinct_parts all (Some own) key e = inl e
 
 -- a first arm's constant, and the others
-apart_parts : (o : Option Value) (os : List (Option Value)) → are_apart (o ∷ os) ≡ true → (v : Value) × (o ≡ Some v) × (all_other v os ≡ true) × (are_apart os ≡ true)
+pub apart_parts : (o : Option Value) (os : List (Option Value)) → are_apart (o ∷ os) ≡ true → (v : Value) × (o ≡ Some v) × (all_other v os ≡ true) × (are_apart os ≡ true)
 apart_parts None os e = absurd cc
 apart_parts (Some v) os e = let p = both_true (all_other v os) (are_apart os) e in (v, refl, p.0, p.1)
 
-other_parts : (v : Value) (o : Option Value) (os : List (Option Value)) → all_other v (o ∷ os) ≡ true → (w : Value) × (o ≡ Some w) × (not (eq_by_cmp value_cmp v w) ≡ true) × (all_other v os ≡ true)
+pub other_parts : (v : Value) (o : Option Value) (os : List (Option Value)) → all_other v (o ∷ os) ≡ true → (w : Value) × (o ≡ Some w) × (not (eq_by_cmp value_cmp v w) ≡ true) × (all_other v os ≡ true)
 other_parts v None os e = absurd cc
 other_parts v (Some w) os e = let p = both_true (not (eq_by_cmp value_cmp v w)) (all_other v os) e in (w, refl, p.0, p.1)
 
@@ -185,7 +180,7 @@ module _ (left right : List Row) (left_by right_by : List ℕ) where
       → Apart (Unlike (l ++ map (λ k. n + k) r)) (joined left_by right_by left right)
   both_keyed n l r apart others wide =
       let key = l ++ map (λ k. n + k) r in
-      pairs_apart key l (λ c i. in_front c l (map (λ k. n + k) r) i) apart (λ x y i j. wide x i ∙ sym (wide y j)) (λ a i.
+      pairs_apart key l (λ c i. in_left c l (map (λ k. n + k) r) i) apart (λ x y i j. wide x i ∙ sym (wide y j)) (λ a i.
       apart_map (Unlike key) (λ b. a ++ b) (matching a) (apart_within (Unlike r) (λ b d. Unlike key (a ++ b) (a ++ d)) (matching a)
       (apart_filter (Unlike r) (λ b. same_row (key_at left_by a) (key_at right_by b)) right others)
       (λ b d ib id differ agree. differ (right_agree n r a b a d (wide a i) (wide a i) (λ c z. agree c (in_back c l (map (λ k. n + k) r) z))))))
@@ -220,10 +215,10 @@ module _ (inputs : List Shape) (tables : List (List Row)) (are : AreTables input
     has_constants (Filter from cond) e x i = has_constants from e x (in_filtered (λ row. holds cond row no_calls) x (rows from tables) i).0
     has_constants (Foreach from items) e x i =
         let p = in_mapped (λ row. made items row no_calls) x (rows from tables) i in
-        subst (λ z. HasConstants (facts inputs (Foreach from items)).constants z) (sym p.2) (made_has (facts inputs from).constants p.0 no_calls (has_constants from e p.0 p.1) items)
+        subst (λ z. HasConstants (facts inputs (Foreach from items)).constants z) (sym p.2) (made_has (facts inputs from).constants p.0 no_calls (λ k w is. constant_is (facts inputs from).constants p.0 k w (has_constants from e p.0 p.1) is) items)
     has_constants (Grouped from columns items) e x i =
         let p = in_mapped (λ by. made items by (calls_over (members columns (rows from tables) by))) x (rising (map (key_at columns) (rows from tables))) i in
-        none_has items x (ap length p.2 ∙ made_width items p.0 _)
+        subst (λ z. HasConstants (item_constants [] items) z) (sym p.2) (made_has [] p.0 (calls_over (members columns (rows from tables) p.0)) (λ k w is. absurd cc) items)
     has_constants (Join left left_by right right_by) e x i =
         let p = pair_of (rows left tables) (rows right tables) left_by right_by x i in
         subst (λ z. HasConstants (facts inputs (Join left left_by right right_by)).constants z) (sym p.is) (append_has (facts inputs left).constants (facts inputs right).constants p.a p.b (has_constants left e.0 p.a p.in_left) (has_constants right e.1 p.b p.in_right))

@@ -8,3 +8,9 @@ pub mod Even
 pub mod Apart
 pub mod Agree
 pub mod Literal
+pub mod Steps
+pub mod FactsOfTrees
+pub mod TreesOfNodes
+pub mod KindsOfNodes
+pub mod KindsOfValues
+pub mod KindsOfRows

@@ -114,6 +114,10 @@ item_constant constants (Column k) = constant_at constants k
 item_constant constants (Constant v) = Some v
 item_constant constants _ = None
 
+-- the constants of the columns that items make
+abbrev pub item_constants : List (Option Value) → List PlanExpr → List (Option Value)
+item_constants constants items = map (λ e. item_constant constants (plain e)) items
+
 -- so many columns that are not constant
 abbrev pub unknowns : ℕ → List (Option Value)
 unknowns zero = []
@@ -135,11 +139,11 @@ foreach_key items (Some key) = places_of is_column items key
 
 -- FOREACH: for each key column of the operand, the first item that is a plain reference to it
 abbrev pub foreach_facts : List PlanExpr → Facts → Facts
-foreach_facts items from = facts_of (map (λ e. item_constant from.constants (plain e)) items) (foreach_key items from.key)
+foreach_facts items from = facts_of (item_constants from.constants items) (foreach_key items from.key)
 
--- GROUP then FOREACH: for each BY column, the first item that is it
+-- GROUP then FOREACH: for each BY column, the first item that is it; numbers and literals alone are constant
 abbrev pub grouped_facts : List ℕ → List PlanExpr → Facts
-grouped_facts columns items = facts_of (none_constant items) (places_of (is_by columns) items columns)
+grouped_facts columns items = facts_of (item_constants [] items) (places_of (is_by columns) items columns)
 
 -- JOIN: the left key where the right BY columns include the right key; else both keys, the right one moved by the left width
 abbrev pub join_key : List ℕ → ℕ → Option (List ℕ) → Option (List ℕ) → Option (List ℕ)

@@ -17,6 +17,10 @@ pub record Plan : Type 0 where
   pub inputs : List Shape
   pub output : Shape
 
+-- the plan of these parts
+abbrev pub plan_with : List Node → ℕ → List Shape → Shape → Plan
+plan_with nodes stored inputs output = record { nodes = nodes; stored = stored; inputs = inputs; output = output }
+
 -- the kinds of the inputs
 abbrev pub kinds_of_inputs : List Shape → List (List Kind)
 kinds_of_inputs inputs = map (λ s. kinds s.columns) inputs

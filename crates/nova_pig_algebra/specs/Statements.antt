@@ -1,10 +1,18 @@
 -- What the laws of this crate say. Each is the contract of a function of `laws`.
-use Rattle.std.specs.Prelude.{◌≡◌, ◌⊎◌, ℕ, List, [], ◌∷◌, Some}
+use Rattle.std.specs.Prelude.{◌≡◌, ◌⊎◌, ℕ, List, [], ◌∷◌, Some, slice_get}
 use Rattle.std.specs.List.{AllByRecursion}
-use Rattle.nova_value.specs.Rows.{Shape, FitsRow, key_at}
+use Rattle.nova_value.specs.declared.value.Value.{Value}
+use Rattle.nova_value.specs.declared.value.Kind.{Kind}
+use Rattle.nova_value.specs.Rows.{Shape, FitKinds, FitsRow, value_at, key_at}
 use Rattle.nova_pig_algebra.specs.declared.node.PlanExpr.{PlanExpr}
+use Rattle.nova_pig_algebra.specs.declared.node.Node.{Node}
 use Rattle.nova_pig_algebra.specs.Meaning.{Row, Calls, value_of, holds, calls}
-use Rattle.nova_pig_algebra.specs.Plan.{Plan, IsKinded, rows_of, plan_key}
+use Rattle.nova_pig_algebra.specs.Tree.{tree_at, trees, rows}
+use Rattle.nova_pig_algebra.specs.Sorts.{Over, Row as OverRows}
+use Rattle.nova_pig_algebra.specs.Kinds.{nodes_over}
+use Rattle.nova_pig_algebra.specs.Keys.{constant_at, facts}
+use Rattle.nova_pig_algebra.specs.Nodes.{node_tree}
+use Rattle.nova_pig_algebra.specs.Plan.{Plan, IsKinded, IsPlan, kinds_of_inputs, rows_of, plan_key}
 
 -- x is one of them
 abbrev pub In : {X : Type 0} → X → List X → Type 0
@@ -41,6 +49,41 @@ AreTables (s ∷ inputs) (rows ∷ tables) = AreRowsOf s rows × AreTables input
 abbrev pub KeysTellRowsApart : Type 0
 KeysTellRowsApart = (p : Plan) → IsKinded p → (key : List ℕ) → plan_key p ≡ Some key
     → (tables : List (List Row)) → AreTables p.inputs tables → Keyed key (rows_of p tables)
+
+-- nor has a node of it
+abbrev pub NodeKeysTellRowsApart : Type 0
+NodeKeysTellRowsApart = (p : Plan) → IsKinded p → (k : ℕ) (key : List ℕ) → (facts p.inputs (tree_at (trees p.nodes) k)).key ≡ Some key
+    → (tables : List (List Row)) → AreTables p.inputs tables → Keyed key (rows (tree_at (trees p.nodes) k) tables)
+
+-- a constant column has its value in each row of its node, for all tables of the input schemas
+abbrev pub ConstantsHold : Type 0
+ConstantsHold = (p : Plan) → IsKinded p → (k column : ℕ) (v : Value) → constant_at (facts p.inputs (tree_at (trees p.nodes) k)).constants column ≡ Some v
+    → (tables : List (List Row)) → AreTables p.inputs tables → (row : Row) → In row (rows (tree_at (trees p.nodes) k) tables) → value_at row column ≡ v
+
+-- the tree of a node is made of the trees of the nodes that it names, which stand before it
+abbrev pub TreesOfNodes : Type 0
+TreesOfNodes = (nodes : List Node) (k : ℕ) → tree_at (trees nodes) k ≡ node_tree nodes k (slice_get nodes k)
+
+-- each row fits the schema
+abbrev pub AllFit : Shape → List Row → Type 0
+AllFit s rows = (row : Row) → In row rows → FitsRow s row
+
+-- rows for each of these schemas, which fit
+abbrev pub TablesFit : List Shape → List (List Row) → Type 0
+TablesFit [] [] = Unit {0}
+TablesFit [] (rows ∷ tables) = ⊥
+TablesFit (s ∷ inputs) [] = ⊥
+TablesFit (s ∷ inputs) (rows ∷ tables) = AllFit s rows × TablesFit inputs tables
+
+-- the rows of a plan fit its output, over all tables of the input schemas
+abbrev pub RowsFitTheirKinds : Type 0
+RowsFitTheirKinds = (p : Plan) → IsPlan p → (tables : List (List Row)) → AreTables p.inputs tables → AllFit p.output (rows_of p tables)
+
+-- the rows of each node that gives rows have its kinds, over all rows that fit the input schemas
+abbrev pub NodesFitTheirKinds : Type 0
+NodesFitTheirKinds = (p : Plan) → IsPlan p → (all : List Over) → nodes_over (kinds_of_inputs p.inputs) [] p.nodes ≡ Some all
+    → (tables : List (List Row)) → TablesFit p.inputs tables
+    → (k : ℕ) (ks : List Kind) → slice_get all k ≡ Some (OverRows ks) → (row : Row) → In row (rows (tree_at (trees p.nodes) k) tables) → FitKinds ks row
 
 -- an expression depends only on what the calls that stand in it give
 abbrev pub DependsOnItsCalls : Type 0

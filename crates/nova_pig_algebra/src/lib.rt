@@ -2,15 +2,26 @@
 //!
 //! A plan is a list of nodes, each of which names earlier ones, with a stored node; it means the
 //! list of rows of that node. A node's key is a set of columns at which no two of its rows are
-//! equal.
+//! equal; it is computed with the node's constant columns, node by node from the left.
 #![tactic(auto)]
 
+mod columns;
+mod constants;
 mod facts;
+mod keys;
+mod known;
 mod laws;
 mod literals;
 mod node;
+mod places;
+mod plan;
 
-pub use facts::Facts;
-pub use laws::{expressions_depend_on_their_calls, keys_tell_rows_apart};
-pub use literals::nodes_have_values;
+pub use columns::{column_set, covers, same_columns};
+pub use facts::{Constant, Facts};
+pub use known::{facts_of_nodes, key_of_nodes};
+pub use laws::{
+    constants_hold, expressions_depend_on_their_calls, keys_tell_rows_apart, rows_fit_their_kinds,
+    trees_are_of_earlier_nodes,
+};
 pub use node::{Node, PlanExpr, Sort};
+pub use plan::Plan;

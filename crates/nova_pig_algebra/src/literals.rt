@@ -84,7 +84,7 @@ fn node_has_values(node: &Node)
 
 /// The literals of nodes are values, as each number and text of a program is. It walks the nodes
 /// once, and changes and answers nothing.
-pub fn nodes_have_values(nodes: &[Node])
+pub(crate) fn nodes_have_values(nodes: &[Node])
     ensures { spec.nodes_have_values nodes.now ≡ true }
 {
     for node in nodes {

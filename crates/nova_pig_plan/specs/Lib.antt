@@ -4,6 +4,7 @@ pub mod Columns
 pub mod Exprs
 pub mod Items
 pub mod Plans
+pub mod Kept
 pub mod Sorts
 pub mod Kinded
 pub mod Resolve

@@ -12,7 +12,7 @@ use std::marker::Model;
 /// of its node.
 #[derive(Drop)]
 pub struct Aliases<'a> {
-    map: IndexMap<&'a [u8], Scope>,
+    map: IndexMap<&'a [u8], Scope<'a>>,
 }
 
 impl<'a> Model for Aliases<'a> {
@@ -35,7 +35,7 @@ impl<'a> Aliases<'a> {
     }
 
     /// The number and the scope of an alias.
-    pub fn find(&self, name: &[u8]) -> Option<(usize, &Scope)>
+    pub fn find(&self, name: &[u8]) -> Option<(usize, &Scope<'a>)>
         ensures { option_map (λ p. (p.0, p.1.now)) result ≡ spec.find name.now 0 self.now }
     {
         let (place, _, scope) = self.map.get_full(name)?;
@@ -43,9 +43,9 @@ impl<'a> Aliases<'a> {
     }
 
     /// One alias more.
-    pub fn add(&mut self, name: &'a [u8], scope: Scope) -> Result<(), AllocError>
+    pub fn add(&mut self, name: &'a [u8], scope: Scope<'a>) -> Result<(), AllocError>
         requires { spec.find name.now 0 self.old ≡ None }
-        ensures { OnOk result (self.new ≡ self.old ++ (name.now, scope) ∷ []) }
+        ensures { OnOk result (self.new ≡ self.old ++ (name.now, scope.entry) ∷ []) }
     {
         match self.map.insert(name, scope) {
             Ok(_) => Ok(()),

@@ -4,10 +4,9 @@ ghost use Rattle.nova_pig_plan.specs.Answers.{Gives, Answer};
 ghost use Rattle.nova_pig_plan.specs.Columns as spec;
 
 use crate::fault::{Cause, Stop};
-use crate::scope::Col;
+use crate::scope::{Col, Text};
 use nova_pig_tree::Field;
 use nova_value::Kind;
-use sqlite_items::Items;
 
 /// A place as the plan numbers it. No list of the program is so long that this fails.
 pub(crate) fn narrow(place: usize) -> Result<u32, Stop>
@@ -27,17 +26,17 @@ pub(crate) fn same_text(a: &[u8], b: &[u8]) -> bool
 }
 
 /// Whether the text is there and is this one.
-fn is_text(text: &Option<Items<u8>>, name: &[u8]) -> bool
+fn is_text(text: &Option<Text<'_>>, name: &[u8]) -> bool
     ensures { result ≡ spec.is_text text.now name.now }
 {
     match text {
-        Some(text) => same_text(text.as_slice(), name),
+        Some(text) => same_text(text.bytes(), name),
         None => false,
     }
 }
 
 /// The place of the one column of this name.
-pub(crate) fn place_named(columns: &[Col], name: &[u8]) -> Result<usize, Cause>
+pub(crate) fn place_named(columns: &[Col<'_>], name: &[u8]) -> Result<usize, Cause>
     ensures { result ≡ spec.the_one (spec.places (spec.is_named name.now) 0 columns.now) }
 {
     let mut found = None;
@@ -53,7 +52,7 @@ pub(crate) fn place_named(columns: &[Col], name: &[u8]) -> Result<usize, Cause>
 }
 
 /// The place of the one column of this name and origin.
-fn place_from(columns: &[Col], alias: &[u8], name: &[u8]) -> Result<usize, Cause>
+fn place_from(columns: &[Col<'_>], alias: &[u8], name: &[u8]) -> Result<usize, Cause>
     ensures { result ≡ spec.the_one (spec.places (spec.comes_from alias.now name.now) 0 columns.now) }
 {
     let mut found = None;
@@ -69,7 +68,7 @@ fn place_from(columns: &[Col], alias: &[u8], name: &[u8]) -> Result<usize, Cause
 }
 
 /// The place of the column that a reference means, anywhere but over a group.
-pub(crate) fn field_of(columns: &[Col], field: &Field) -> Result<u32, Stop>
+pub(crate) fn field_of(columns: &[Col<'_>], field: &Field) -> Result<u32, Stop>
     ensures { Gives result (spec.field_of columns.now field.now) }
 {
     match field {
@@ -87,7 +86,7 @@ pub(crate) fn field_of(columns: &[Col], field: &Field) -> Result<u32, Stop>
 }
 
 /// The kind of the column at a place.
-pub(crate) fn kind_at(columns: &[Col], at: u32) -> Kind
+pub(crate) fn kind_at(columns: &[Col<'_>], at: u32) -> Kind
     ensures { result ≡ spec.kind_at columns.now at }
 {
     match columns.get(at as usize) {

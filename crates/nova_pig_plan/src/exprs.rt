@@ -74,7 +74,7 @@ pub(crate) fn check(holds: bool) -> Result<(), Stop>
 }
 
 /// `group` alone, which is a value where there is one BY column.
-fn whole_group(alloc: Global, by: &[Col]) -> Result<Typed, Stop>
+fn whole_group(alloc: Global, by: &[Col<'_>]) -> Result<Typed, Stop>
     ensures { Gives result (spec.whole_group by.now) }
 {
     match by {
@@ -84,7 +84,7 @@ fn whole_group(alloc: Global, by: &[Col]) -> Result<Typed, Stop>
 }
 
 /// A reference over a group and outside a call.
-fn group_field(alloc: Global, bag: &[u8], by: &[Col], field: &Field) -> Result<Typed, Stop>
+fn group_field(alloc: Global, bag: &[u8], by: &[Col<'_>], field: &Field) -> Result<Typed, Stop>
     ensures { Gives result (spec.group_field bag.now by.now field.now) }
 {
     match field {
@@ -111,7 +111,7 @@ fn group_field(alloc: Global, bag: &[u8], by: &[Col], field: &Field) -> Result<T
 }
 
 /// A reference outside a call.
-fn ref_of(alloc: Global, scope: &Scope, field: &Field) -> Result<Typed, Stop>
+fn ref_of(alloc: Global, scope: &Scope<'_>, field: &Field) -> Result<Typed, Stop>
     ensures { Gives result (spec.ref_of scope.now field.now) }
 {
     match scope {
@@ -124,7 +124,7 @@ fn ref_of(alloc: Global, scope: &Scope, field: &Field) -> Result<Typed, Stop>
             bag,
             by,
             columns: _,
-        } => group_field(alloc, bag.as_slice(), by.as_slice(), field),
+        } => group_field(alloc, bag.bytes(), by.as_slice(), field),
     }
 }
 
@@ -165,7 +165,7 @@ fn bag_call(alloc: Global, call: CallKind) -> Result<Typed, Stop>
 /// A call over the bag of the scope.
 fn call_field(
     alloc: Global,
-    columns: &[Col],
+    columns: &[Col<'_>],
     call: CallKind,
     field: &Option<Field>,
 ) -> Result<Typed, Stop>
@@ -183,7 +183,7 @@ fn call_field(
 /// A call: BagMisused where its name isn't the bag's, then its field, then its kind.
 fn call_of(
     alloc: Global,
-    scope: &Scope,
+    scope: &Scope<'_>,
     call: CallKind,
     alias: &[u8],
     field: &Option<Field>,
@@ -197,7 +197,7 @@ fn call_of(
             by: _,
             columns,
         } => {
-            if same_text(alias, bag.as_slice()) {
+            if same_text(alias, bag.bytes()) {
                 call_field(alloc, columns.as_slice(), call, field)
             } else {
                 Err(Stop::Fault(Cause::BagMisused))
@@ -207,7 +207,7 @@ fn call_of(
 }
 
 /// The expression of the plan, or the first fault: its parts from left to right, then itself.
-pub fn expr_of(expr: &Expr, alloc: Global, scope: &Scope) -> Result<Typed, Stop>
+pub fn expr_of(expr: &Expr, alloc: Global, scope: &Scope<'_>) -> Result<Typed, Stop>
     ensures { Gives result (spec.expr_of scope.now expr.now) }
 {
     match expr {

@@ -1,43 +1,39 @@
 //! The items of a FOREACH.
-ghost use Rattle.std.specs.Prelude.{◌≡◌, Ok, Some, None, IfOk};
+ghost use Rattle.std.specs.Prelude.{◌≡◌, Ok, Some, None};
 ghost use Rattle.nova_pig_plan.specs.Answers.{Gives, GivesBy};
 ghost use Rattle.nova_pig_tree.specs.declared.expression.Expr.TheViews.{out-Expr};
 ghost use Rattle.nova_pig_plan.specs.Items as spec;
+ghost use Rattle.nova_pig_plan.specs.Kept as kept;
 
 use crate::columns::{field_of, narrow};
 use crate::exprs::{check, expr_of};
 use crate::fault::{Cause, Stop};
-use crate::scope::{Col, Made, Scope};
+use crate::scope::{Col, Made, Scope, Text};
 use nova_pig_algebra::{PlanExpr, Sort};
 use nova_pig_tree::{Expr, Field, Item};
 use nova_value::{Kind, Str};
 use sqlite_items::Items;
-use std::alloc::{AllocError, Global};
+use std::alloc::Global;
 
-/// A copy of a text that may be there.
-pub(crate) fn copy_text(
-    alloc: Global,
-    text: &Option<Items<u8>>,
-) -> Result<Option<Items<u8>>, AllocError>
-    ensures { IfOk result (λ t. t ≡ text.now) }
+/// The same text, where there is one.
+pub(crate) fn text_again<'a>(text: &Option<Text<'a>>) -> Option<Text<'a>>
+    ensures { result ≡ text.now }
 {
     match text {
-        Some(text) => Ok(Some(Items::from_slice(alloc, text.as_slice())?)),
-        None => Ok(None),
+        Some(text) => Some(text.again()),
+        None => None,
     }
 }
 
-/// A copy of a column.
-pub(crate) fn copy_column(alloc: Global, column: &Col) -> Result<Col, AllocError>
-    ensures { IfOk result (λ c. c ≡ column.now) }
+/// The same column.
+pub(crate) fn column_again<'a>(column: &Col<'a>) -> Col<'a>
+    ensures { result ≡ column.now }
 {
-    let name = copy_text(alloc, &column.name)?;
-    let origin = copy_text(alloc, &column.origin)?;
-    Ok(Col {
+    Col {
         kind: column.kind,
-        name,
-        origin,
-    })
+        name: text_again(&column.name),
+        origin: text_again(&column.origin),
+    }
 }
 
 /// Whether both are one kind.
@@ -57,19 +53,18 @@ pub(crate) fn same_kind(a: Kind, b: Kind) -> bool
 }
 
 /// A label without origin.
-fn label(alloc: Global, kind: Kind, name: &[u8]) -> Result<Col, AllocError>
-    ensures { IfOk result (λ c. c ≡ spec.col kind (Some name.now) None) }
+fn label<'a>(kind: Kind, name: &'a [u8]) -> Col<'a>
+    ensures { result ≡ spec.col kind (Some name.now) None }
 {
-    let name = Items::from_slice(alloc, name)?;
-    Ok(Col {
+    Col {
         kind,
-        name: Some(name),
+        name: Some(Text::new(name)),
         origin: None,
-    })
+    }
 }
 
 /// A label without name and origin.
-fn unnamed() -> Col
+fn unnamed<'a>() -> Col<'a>
     ensures { result ≡ spec.unnamed }
 {
     Col {
@@ -79,25 +74,26 @@ fn unnamed() -> Col
     }
 }
 
-/// A copy of the column at a place.
-pub(crate) fn column_at(alloc: Global, columns: &[Col], at: u32) -> Result<Col, AllocError>
-    ensures { IfOk result (λ c. c ≡ spec.column_at columns.now at) }
+/// The column at a place.
+pub(crate) fn column_at<'a>(columns: &[Col<'a>], at: u32) -> Col<'a>
+    ensures { result ≡ spec.column_at columns.now at }
 {
-    match columns.get(at as usize) {
-        Some(column) => copy_column(alloc, column),
-        None => Ok(unnamed()),
+    if (at as usize) < columns.len() {
+        column_again(&columns[at as usize])
+    } else {
+        unnamed()
     }
 }
 
 /// How an item that is a field alone is named.
-fn field_label(alloc: Global, scope: &Scope, field: &Field) -> Result<Col, Stop>
+fn field_label<'a>(scope: &Scope<'a>, field: &'a Field) -> Result<Col<'a>, Stop>
     ensures { Gives result (Ok (spec.field_label scope.now field.now)) }
 {
     match scope {
         Scope::Rows { columns } => {
             let columns = columns.as_slice();
             match field_of(columns, field) {
-                Ok(at) => Ok(column_at(alloc, columns, at)?),
+                Ok(at) => Ok(column_at(columns, at)),
                 Err(Stop::Fault(_)) => Ok(unnamed()),
                 Err(Stop::NoMemory) => Err(Stop::NoMemory),
             }
@@ -107,31 +103,31 @@ fn field_label(alloc: Global, scope: &Scope, field: &Field) -> Result<Col, Stop>
             by: _,
             columns: _,
         } => match field {
-            Field::GroupOf(name) => Ok(label(alloc, Kind::Long, name.bytes())?),
-            Field::Plain(_) => Ok(label(alloc, Kind::Long, b"group")?),
-            Field::Of(..) => Ok(label(alloc, Kind::Long, b"group")?),
-            Field::At(_) => Ok(label(alloc, Kind::Long, b"group")?),
+            Field::GroupOf(name) => Ok(label(Kind::Long, name.bytes())),
+            Field::Plain(_) => Ok(label(Kind::Long, b"group")),
+            Field::Of(..) => Ok(label(Kind::Long, b"group")),
+            Field::At(_) => Ok(label(Kind::Long, b"group")),
         },
     }
 }
 
 /// How an item without AS is named.
-fn expr_label(alloc: Global, scope: &Scope, expr: &Expr) -> Result<Col, Stop>
+fn expr_label<'a>(scope: &Scope<'a>, expr: &'a Expr) -> Result<Col<'a>, Stop>
     ensures { Gives result (Ok (spec.layer_label scope.now (out-Expr expr.now))) }
 {
     match expr {
-        Expr::Ref(field) => field_label(alloc, scope, field),
+        Expr::Ref(field) => field_label(scope, field),
         _ => Ok(unnamed()),
     }
 }
 
 /// How an item is named.
-fn item_label(alloc: Global, scope: &Scope, name: &Option<Str>, expr: &Expr) -> Result<Col, Stop>
+fn item_label<'a>(scope: &Scope<'a>, name: &'a Option<Str>, expr: &'a Expr) -> Result<Col<'a>, Stop>
     ensures { Gives result (Ok (spec.item_label scope.now name.now expr.now)) }
 {
     match name {
-        Some(name) => Ok(label(alloc, Kind::Long, name.bytes())?),
-        None => expr_label(alloc, scope, expr),
+        Some(name) => Ok(label(Kind::Long, name.bytes())),
+        None => expr_label(scope, expr),
     }
 }
 
@@ -151,42 +147,55 @@ fn value_kind(sort: Sort, kind: Option<Kind>) -> Result<Kind, Stop>
     }
 }
 
-/// One item more.
-fn add(made: &mut Made, expr: PlanExpr, column: Col) -> Result<(), Stop>
-    ensures { GivesBy (λ _. made.new) result (Ok (spec.with_item made.old expr column)) }
+/// Whether there are more columns than an alias may have.
+fn is_wide(made: &Made<'_>) -> bool
+    ensures { result ≡ kept.is_wide made.now }
 {
+    made.columns.len() > 64
+}
+
+/// One item more. Past the first column too many none is kept.
+fn add<'a>(made: &mut Made<'a>, expr: PlanExpr, column: Col<'a>) -> Result<(), Stop>
+    ensures { GivesBy (λ _. made.new) result (Ok (kept.with_item made.old expr column.entry)) }
+{
+    if is_wide(made) {
+        return Ok(());
+    }
     made.exprs.push(expr)?;
     made.columns.push(column)?;
     Ok(())
 }
 
 /// `*`: each column.
-fn add_all(alloc: Global, made: &mut Made, columns: &[Col]) -> Result<(), Stop>
-    ensures { GivesBy (λ _. made.new) result (Ok (spec.with_all 0 made.old columns.now)) }
+fn add_all<'a>(made: &mut Made<'a>, columns: &[Col<'a>]) -> Result<(), Stop>
+    ensures { GivesBy (λ _. made.new) result (Ok (kept.with_all 0 made.old columns.now)) }
 {
     for (at, column) in columns.iter().enumerate() {
+        if is_wide(made) {
+            return Ok(());
+        }
         let place = narrow(at)?;
-        let copy = copy_column(alloc, column)?;
-        add(made, PlanExpr::Col(place), copy)?;
+        add(made, PlanExpr::Col(place), column_again(column))?;
     }
     Ok(())
 }
 
 /// The BY columns, with the origin `group`.
-fn add_flat(alloc: Global, made: &mut Made, by: &[Col]) -> Result<(), Stop>
-    ensures { GivesBy (λ _. made.new) result (Ok (spec.with_flat 0 made.old by.now)) }
+fn add_flat<'a>(made: &mut Made<'a>, by: &[Col<'a>]) -> Result<(), Stop>
+    ensures { GivesBy (λ _. made.new) result (Ok (kept.with_flat 0 made.old by.now)) }
 {
     for (at, column) in by.iter().enumerate() {
+        if is_wide(made) {
+            return Ok(());
+        }
         let place = narrow(at)?;
-        let name = copy_text(alloc, &column.name)?;
-        let origin = Items::from_slice(alloc, b"group")?;
         add(
             made,
             PlanExpr::GroupCol(place),
             Col {
                 kind: column.kind,
-                name,
-                origin: Some(origin),
+                name: text_again(&column.name),
+                origin: Some(Text::new(b"group")),
             },
         )?;
     }
@@ -194,32 +203,29 @@ fn add_flat(alloc: Global, made: &mut Made, by: &[Col]) -> Result<(), Stop>
 }
 
 /// `FLATTEN(group)`.
-fn flatten(alloc: Global, made: &mut Made, by: &[Col]) -> Result<(), Stop>
-    ensures { GivesBy (λ _. made.new) result (Ok (spec.flattened made.old by.now)) }
+fn flatten<'a>(made: &mut Made<'a>, by: &[Col<'a>]) -> Result<(), Stop>
+    ensures { GivesBy (λ _. made.new) result (Ok (kept.flattened made.old by.now)) }
 {
     match by {
-        [column] => {
-            let label = label(alloc, column.kind, b"group")?;
-            add(made, PlanExpr::GroupCol(0), label)
-        }
-        _ => add_flat(alloc, made, by),
+        [column] => add(made, PlanExpr::GroupCol(0), label(column.kind, b"group")),
+        _ => add_flat(made, by),
     }
 }
 
 /// An expression as an item.
-fn add_value(
+fn add_value<'a>(
     alloc: Global,
-    scope: &Scope,
-    made: &mut Made,
-    expr: &Expr,
-    name: &Option<Str>,
+    scope: &Scope<'a>,
+    made: &mut Made<'a>,
+    expr: &'a Expr,
+    name: &'a Option<Str>,
     kind: Option<Kind>,
 ) -> Result<(), Stop>
-    ensures { GivesBy (λ _. made.new) result (spec.value_of scope.now made.old expr.now name.now kind) }
+    ensures { GivesBy (λ _. made.new) result (kept.value_of scope.now made.old expr.now name.now kind) }
 {
     let typed = expr_of(expr, alloc, scope)?;
     let kind = value_kind(typed.sort, kind)?;
-    let label = item_label(alloc, scope, name, expr)?;
+    let label = item_label(scope, name, expr)?;
     add(
         made,
         typed.expr.into_inner(),
@@ -232,17 +238,17 @@ fn add_value(
 }
 
 /// One item of a FOREACH.
-pub(crate) fn add_item(
+fn add_item<'a>(
     alloc: Global,
-    scope: &Scope,
-    made: &mut Made,
-    item: &Item,
+    scope: &Scope<'a>,
+    made: &mut Made<'a>,
+    item: &'a Item,
 ) -> Result<(), Stop>
-    ensures { GivesBy (λ _. made.new) result (spec.item_of scope.now made.old item.now) }
+    ensures { GivesBy (λ _. made.new) result (kept.item_of scope.now made.old item.now) }
 {
     match item {
         Item::All => match scope {
-            Scope::Rows { columns } => add_all(alloc, made, columns.as_slice()),
+            Scope::Rows { columns } => add_all(made, columns.as_slice()),
             Scope::Group {
                 bag: _,
                 by: _,
@@ -255,15 +261,20 @@ pub(crate) fn add_item(
                 bag: _,
                 by,
                 columns: _,
-            } => flatten(alloc, made, by.as_slice()),
+            } => flatten(made, by.as_slice()),
         },
         Item::Value { expr, name, kind } => add_value(alloc, scope, made, expr, name, *kind),
     }
 }
 
-/// The items of a FOREACH, from left to right, or the first fault.
-pub(crate) fn items_of(alloc: Global, scope: &Scope, items: &[Item]) -> Result<Made, Stop>
-    ensures { Gives result (spec.items_of scope.now spec.nothing items.now) }
+/// The items of a FOREACH, from left to right, or the first fault. All are looked at; of more
+/// columns than an alias may have, one too many is kept.
+pub(crate) fn items_of<'a>(
+    alloc: Global,
+    scope: &Scope<'a>,
+    items: &'a [Item],
+) -> Result<Made<'a>, Stop>
+    ensures { Gives result (kept.items_of scope.now spec.nothing items.now) }
 {
     let mut made = Made {
         exprs: Items::new(alloc),

@@ -7,9 +7,9 @@ ghost use Rattle.nova_pig_plan.specs.Plans as spec;
 use crate::aliases::Aliases;
 use crate::columns::{narrow, same_text};
 use crate::fault::{Cause, Stop};
-use crate::items::{copy_text, same_kind};
-use crate::scope::{Channels, Col, Defined, Scope};
-use crate::statements::{columns_at, copy_columns, defined, fields_of, known, test, ungrouped};
+use crate::items::{same_kind, text_again};
+use crate::scope::{Channels, Col, Defined, Scope, Text};
+use crate::statements::{columns_again, columns_at, defined, fields_of, known, test, ungrouped};
 use nova_pig_algebra::Node;
 use nova_pig_tree::{Field, Str};
 use nova_value::{Column, Name, Schema};
@@ -17,7 +17,7 @@ use sqlite_items::Items;
 use std::alloc::{AllocError, Global};
 
 /// Whether both have the same kinds, in order.
-fn same_kinds(a: &[Col], b: &[Col]) -> bool
+fn same_kinds(a: &[Col<'_>], b: &[Col<'_>]) -> bool
     ensures { result ≡ spec.same_kinds a.now b.now }
 {
     if a.len() != b.len() {
@@ -32,15 +32,14 @@ fn same_kinds(a: &[Col], b: &[Col]) -> bool
 }
 
 /// The columns of a channel: its names, without origin.
-fn channel_columns(alloc: Global, columns: &[Column]) -> Result<Items<Col>, AllocError>
+fn channel_columns<'a>(alloc: Global, columns: &'a [Column]) -> Result<Items<Col<'a>>, AllocError>
     ensures { IfOk result (λ cs. cs ≡ spec.channel_columns columns.now) }
 {
     let mut all = Items::new(alloc);
     for column in columns {
-        let name = Items::from_slice(alloc, column.name.text().as_bytes())?;
         all.push(Col {
             kind: column.kind,
-            name: Some(name),
+            name: Some(Text::new(column.name.text().as_bytes())),
             origin: None,
         })?;
     }
@@ -48,21 +47,18 @@ fn channel_columns(alloc: Global, columns: &[Column]) -> Result<Items<Col>, Allo
 }
 
 /// Adds the columns with this alias as their origin.
-fn add_from(
-    alloc: Global,
-    all: &mut Items<Col>,
-    alias: &[u8],
-    columns: &[Col],
+fn add_from<'a>(
+    all: &mut Items<Col<'a>>,
+    alias: &'a [u8],
+    columns: &[Col<'a>],
 ) -> Result<(), AllocError>
     ensures { OnOk result (all.new ≡ all.old ++ spec.from_alias alias.now columns.now) }
 {
     for column in columns {
-        let name = copy_text(alloc, &column.name)?;
-        let origin = Items::from_slice(alloc, alias)?;
         all.push(Col {
             kind: column.kind,
-            name,
-            origin: Some(origin),
+            name: text_again(&column.name),
+            origin: Some(Text::new(alias)),
         })?;
     }
     Ok(())
@@ -81,7 +77,11 @@ fn input_of<'c>(inputs: &'c [(Name, Schema)], name: &[u8]) -> Option<(usize, &'c
 }
 
 /// LOAD: UnknownChannel where it names no input.
-pub(crate) fn load(alloc: Global, channels: &Channels, channel: &[u8]) -> Result<Defined, Stop>
+pub(crate) fn load<'a>(
+    alloc: Global,
+    channels: &'a Channels,
+    channel: &[u8],
+) -> Result<Defined<'a>, Stop>
     ensures { Gives result (spec.load channels.now channel.now) }
 {
     match input_of(channels.inputs.as_slice(), channel) {
@@ -97,27 +97,34 @@ pub(crate) fn load(alloc: Global, channels: &Channels, channel: &[u8]) -> Result
     }
 }
 
+/// One side of a JOIN.
+#[derive(Drop)]
+struct Side<'s, 'a> {
+    at: u32,
+    alias: &'a [u8],
+    columns: &'s [Col<'a>],
+    by: &'a [Field],
+}
+
 /// The columns of a JOIN: the left ones, and then the right ones.
-fn both_sides(
+fn both_sides<'a>(
     alloc: Global,
-    left: &[u8],
-    left_columns: &[Col],
-    right: &[u8],
-    right_columns: &[Col],
-) -> Result<Items<Col>, AllocError>
-    ensures { IfOk result (λ cs. cs ≡ spec.from_alias left.now left_columns.now ++ spec.from_alias right.now right_columns.now) }
+    left: &Side<'_, 'a>,
+    right: &Side<'_, 'a>,
+) -> Result<Items<Col<'a>>, AllocError>
+    ensures { IfOk result (λ cs. cs ≡ spec.from_alias left.now.alias.now left.now.columns.now ++ spec.from_alias right.now.alias.now right.now.columns.now) }
 {
     let mut all = Items::new(alloc);
-    add_from(alloc, &mut all, left, left_columns)?;
-    add_from(alloc, &mut all, right, right_columns)?;
+    add_from(&mut all, left.alias, left.columns)?;
+    add_from(&mut all, right.alias, right.columns)?;
     Ok(all)
 }
 
 /// Whether the columns at these places have the same kinds, in order.
 fn same_kinds_at(
     alloc: Global,
-    a: &[Col],
-    b: &[Col],
+    a: &[Col<'_>],
+    b: &[Col<'_>],
     a_at: &[u32],
     b_at: &[u32],
 ) -> Result<bool, AllocError>
@@ -128,17 +135,12 @@ fn same_kinds_at(
     Ok(same_kinds(a.as_slice(), b.as_slice()))
 }
 
-/// One side of a JOIN.
-#[derive(Drop)]
-struct Side<'a> {
-    at: u32,
-    alias: &'a [u8],
-    columns: &'a [Col],
-    by: &'a [Field],
-}
-
 /// JOIN of rows: its BY lists from left to right, their lengths, their kinds, and the width.
-fn join_rows(alloc: Global, left: &Side<'_>, right: &Side<'_>) -> Result<Defined, Stop>
+fn join_rows<'a>(
+    alloc: Global,
+    left: &Side<'_, 'a>,
+    right: &Side<'_, 'a>,
+) -> Result<Defined<'a>, Stop>
     ensures { Gives result (spec.join_rows left.now.at left.now.alias.now left.now.columns.now left.now.by.now right.now.at right.now.alias.now right.now.columns.now right.now.by.now) }
 {
     let left_by = fields_of(alloc, left.columns, left.by)?;
@@ -152,7 +154,7 @@ fn join_rows(alloc: Global, left: &Side<'_>, right: &Side<'_>) -> Result<Defined
         right_by.as_slice(),
     )?;
     test(Cause::WrongType, alike)?;
-    let columns = both_sides(alloc, left.alias, left.columns, right.alias, right.columns)?;
+    let columns = both_sides(alloc, left, right)?;
     defined(
         Node::Join {
             left: left.at,
@@ -165,14 +167,14 @@ fn join_rows(alloc: Global, left: &Side<'_>, right: &Side<'_>) -> Result<Defined
 }
 
 /// JOIN: both aliases, that neither is grouped, and then its BY lists.
-pub(crate) fn join(
+pub(crate) fn join<'a>(
     alloc: Global,
-    done: &Aliases<'_>,
-    left: &[u8],
-    left_by: &[Field],
-    right: &[u8],
-    right_by: &[Field],
-) -> Result<Defined, Stop>
+    done: &Aliases<'a>,
+    left: &'a [u8],
+    left_by: &'a [Field],
+    right: &'a [u8],
+    right_by: &'a [Field],
+) -> Result<Defined<'a>, Stop>
     ensures { Gives result (spec.join done.now left.now left_by.now right.now right_by.now) }
 {
     let (l, left_scope) = known(done, left)?;
@@ -195,7 +197,7 @@ pub(crate) fn join(
 }
 
 /// The columns of an alias that is defined and not grouped.
-fn rows_of<'s>(done: &'s Aliases<'_>, name: &[u8]) -> Result<&'s [Col], Stop>
+fn rows_of<'s, 'a>(done: &'s Aliases<'a>, name: &[u8]) -> Result<&'s [Col<'a>], Stop>
     ensures { GivesBy (λ cs. cs.now) result (spec.rows_of done.now name.now) }
 {
     let (_, scope) = known(done, name)?;
@@ -225,7 +227,7 @@ fn none_grouped(done: &Aliases<'_>, arms: &[Str]) -> Result<(), Stop>
 }
 
 /// SchemaDiffers where an arm's kinds aren't these columns'.
-fn all_alike(done: &Aliases<'_>, columns: &[Col], arms: &[Str]) -> Result<(), Stop>
+fn all_alike(done: &Aliases<'_>, columns: &[Col<'_>], arms: &[Str]) -> Result<(), Stop>
     ensures { Gives result (spec.all_alike done.now columns.now arms.now) }
 {
     for arm in arms {
@@ -236,24 +238,30 @@ fn all_alike(done: &Aliases<'_>, columns: &[Col], arms: &[Str]) -> Result<(), St
 }
 
 /// The columns of the first arm.
-fn first_rows<'s>(done: &'s Aliases<'_>, arms: &[Str]) -> Result<&'s [Col], Stop>
-    ensures { GivesBy (λ cs. cs.now) result (spec.first_rows done.now arms.now) }
+fn first_rows<'a>(alloc: Global, done: &Aliases<'a>, arms: &[Str]) -> Result<Items<Col<'a>>, Stop>
+    ensures { Gives result (spec.first_rows done.now arms.now) }
 {
     match arms.split_first() {
-        Some((arm, _)) => rows_of(done, arm.bytes()),
-        None => Ok(&[]),
+        Some((arm, _)) => {
+            let columns = rows_of(done, arm.bytes())?;
+            Ok(columns_again(alloc, columns)?)
+        }
+        None => Ok(Items::new(alloc)),
     }
 }
 
 /// UNION: each rule over all arms before the next; it has the first arm's columns.
-pub(crate) fn union(alloc: Global, done: &Aliases<'_>, arms: &[Str]) -> Result<Defined, Stop>
+pub(crate) fn union<'a>(
+    alloc: Global,
+    done: &Aliases<'a>,
+    arms: &[Str],
+) -> Result<Defined<'a>, Stop>
     ensures { Gives result (spec.union done.now arms.now) }
 {
     let places = all_known(alloc, done, arms)?;
     none_grouped(done, arms)?;
-    let columns = first_rows(done, arms)?;
-    all_alike(done, columns, arms)?;
-    let columns = copy_columns(alloc, columns)?;
+    let columns = first_rows(alloc, done, arms)?;
+    all_alike(done, columns.as_slice(), arms)?;
     Ok(Defined {
         node: Node::Union { arms: places },
         scope: Scope::Rows { columns },

@@ -1,26 +1,66 @@
 //! What is known of an alias.
+ghost use Rattle.std.specs.Prelude.{◌≡◌};
+
 use nova_pig_algebra::{Node, PlanExpr, Sort};
 use nova_value::{Kind, Name, Schema};
 use sqlite_items::{Boxed, Items};
+use std::marker::Model;
+
+/// A text where it stands: in the script, in a schema or in the program.
+#[derive(Drop)]
+pub struct Text<'a> {
+    bytes: &'a [u8],
+}
+
+impl<'a> Model for Text<'a> {
+    ghost use Rattle.std.specs.Prelude.{ℕ, List};
+
+    ghost Value = { List ℕ };
+
+    ghost view = { λ t. t.bytes.now };
+}
+
+impl<'a> Text<'a> {
+    /// The text of these bytes.
+    pub fn new(bytes: &'a [u8]) -> Text<'a>
+        ensures { result ≡ bytes.now }
+    {
+        Text { bytes }
+    }
+
+    /// The same text.
+    pub fn again(&self) -> Text<'a>
+        ensures { result ≡ self.now }
+    {
+        Text { bytes: self.bytes }
+    }
+
+    /// Its bytes.
+    pub fn bytes(&self) -> &'a [u8]
+        ensures { result.now ≡ self.now }
+    {
+        self.bytes
+    }
+}
 
 /// A column of an alias.
 #[derive(Drop)]
-pub struct Col {
+pub struct Col<'a> {
     pub kind: Kind,
-    pub name: Option<Items<u8>>,
-    pub origin: Option<Items<u8>>,
+    pub name: Option<Text<'a>>,
+    pub origin: Option<Text<'a>>,
 }
 
 /// The columns of an alias; of a grouped one the name of its bag, its BY columns and the bag's columns.
 #[derive(Drop)]
-pub enum Scope {
+pub enum Scope<'a> {
     Rows {
-        columns: Items<Col>,
+        columns: Items<Col<'a>>,
     },
     Group {
-        bag: Items<u8>,
-        by: Items<Col>,
-        columns: Items<Col>,
+        bag: Text<'a>,
+        by: Items<Col<'a>>,
+        columns: Items<Col<'a>>,
     },
 }
 
@@ -33,16 +73,16 @@ pub struct Typed {
 
 /// The items of a FOREACH: their expressions, and the columns that they make.
 #[derive(Drop)]
-pub struct Made {
+pub struct Made<'a> {
     pub exprs: Items<PlanExpr>,
-    pub columns: Items<Col>,
+    pub columns: Items<Col<'a>>,
 }
 
 /// What a statement defines.
 #[derive(Drop)]
-pub struct Defined {
+pub struct Defined<'a> {
     pub node: Node,
-    pub scope: Scope,
+    pub scope: Scope<'a>,
 }
 
 /// The channels of a task: each with its name and its schema, the inputs in the order of the task.

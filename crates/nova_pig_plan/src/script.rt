@@ -18,7 +18,12 @@ use sqlite_items::Items;
 use std::alloc::Global;
 
 /// What an operator defines, or its first fault.
-fn op_of(alloc: Global, channels: &Channels, done: &Aliases<'_>, op: &Op) -> Result<Defined, Stop>
+fn op_of<'a>(
+    alloc: Global,
+    channels: &'a Channels,
+    done: &Aliases<'a>,
+    op: &'a Op,
+) -> Result<Defined<'a>, Stop>
     ensures { Gives result (spec.op_of channels.now done.now op.now) }
 {
     match op {
@@ -45,13 +50,13 @@ fn op_of(alloc: Global, channels: &Channels, done: &Aliases<'_>, op: &Op) -> Res
 }
 
 /// What a statement defines: AliasTwice comes before the faults of the operator.
-fn define(
+fn define<'a>(
     alloc: Global,
-    channels: &Channels,
-    done: &Aliases<'_>,
+    channels: &'a Channels,
+    done: &Aliases<'a>,
     alias: &[u8],
-    op: &Op,
-) -> Result<Defined, Stop>
+    op: &'a Op,
+) -> Result<Defined<'a>, Stop>
     ensures gives { Gives result (spec.define channels.now done.now alias.now op.now) }
     ensures fresh { OnOk result (spec.find alias.now 0 done.now ≡ None) }
 {
@@ -64,11 +69,11 @@ fn define(
 /// Adds what a statement defines.
 fn add<'a>(
     alloc: Global,
-    channels: &Channels,
+    channels: &'a Channels,
     done: &mut Aliases<'a>,
     nodes: &mut Items<Node>,
     alias: &'a [u8],
-    op: &Op,
+    op: &'a Op,
 ) -> Result<(), Stop>
     ensures { GivesBy {B = spec.State} (λ _. (done.new, nodes.new)) result (first (spec.define channels.now done.old alias.now op.now) (spec.and_defined done.old nodes.old alias.now)) }
 {
@@ -89,10 +94,10 @@ fn at_statement(stop: Stop, statement: u64) -> FaultAt
 }
 
 /// The nodes of the statements, or the first fault.
-pub(crate) fn resolve_nodes(
+pub(crate) fn resolve_nodes<'a>(
     alloc: Global,
-    script: &[Statement],
-    channels: &Channels,
+    script: &'a [Statement],
+    channels: &'a Channels,
 ) -> Result<Graph, FaultAt>
     ensures { spec.GivesGraph result (spec.graph_of script.now channels.now) }
 {

@@ -1,14 +1,15 @@
 //! What statements define.
 ghost use Rattle.std.specs.Prelude.{◌≡◌, [], IfOk};
 ghost use Rattle.nova_pig_plan.specs.Answers.{Gives, GivesBy};
+ghost use Rattle.nova_pig_plan.specs.Kept as kept;
 ghost use Rattle.nova_pig_plan.specs.Plans as spec;
 
 use crate::aliases::Aliases;
 use crate::columns::{field_of, narrow};
 use crate::exprs::{check, expr_of, is_condition};
 use crate::fault::{Cause, Stop};
-use crate::items::{column_at, copy_column, items_of};
-use crate::scope::{Col, Defined, Scope};
+use crate::items::{column_again, column_at, items_of};
+use crate::scope::{Col, Defined, Scope, Text};
 use nova_pig_algebra::Node;
 use nova_pig_tree::{Expr, Field, Item};
 use sqlite_items::Items;
@@ -26,7 +27,10 @@ pub(crate) fn test(cause: Cause, holds: bool) -> Result<(), Stop>
 }
 
 /// The number and the scope of an alias, or UnknownAlias.
-pub(crate) fn known<'s>(done: &'s Aliases<'_>, name: &[u8]) -> Result<(u32, &'s Scope), Stop>
+pub(crate) fn known<'s, 'a>(
+    done: &'s Aliases<'a>,
+    name: &[u8],
+) -> Result<(u32, &'s Scope<'a>), Stop>
     ensures { GivesBy (λ k. (k.0, k.1.now)) result (spec.known done.now name.now) }
 {
     match done.find(name) {
@@ -39,7 +43,7 @@ pub(crate) fn known<'s>(done: &'s Aliases<'_>, name: &[u8]) -> Result<(u32, &'s 
 }
 
 /// The columns of an alias, or BagMisused where it is grouped.
-pub(crate) fn ungrouped(scope: &Scope) -> Result<&[Col], Stop>
+pub(crate) fn ungrouped<'s, 'a>(scope: &'s Scope<'a>) -> Result<&'s [Col<'a>], Stop>
     ensures { GivesBy (λ cs. cs.now) result (spec.ungrouped scope.now) }
 {
     match scope {
@@ -52,20 +56,23 @@ pub(crate) fn ungrouped(scope: &Scope) -> Result<&[Col], Stop>
     }
 }
 
-/// Equal columns.
-pub(crate) fn copy_columns(alloc: Global, columns: &[Col]) -> Result<Items<Col>, AllocError>
+/// The same columns.
+pub(crate) fn columns_again<'a>(
+    alloc: Global,
+    columns: &[Col<'a>],
+) -> Result<Items<Col<'a>>, AllocError>
     ensures { IfOk result (λ cs. cs ≡ columns.now) }
 {
     let mut all = Items::new(alloc);
     for column in columns {
-        all.push(copy_column(alloc, column)?)?;
+        all.push(column_again(column))?;
     }
     Ok(all)
 }
 
 /// A node with its columns, or TooWide where these are more than 64.
-pub(crate) fn defined(node: Node, columns: Items<Col>) -> Result<Defined, Stop>
-    ensures { Gives result (spec.defined node columns) }
+pub(crate) fn defined<'a>(node: Node, columns: Items<Col<'a>>) -> Result<Defined<'a>, Stop>
+    ensures { Gives result (spec.defined node columns.entry) }
 {
     if columns.len() <= 64 {
         Ok(Defined {
@@ -80,7 +87,7 @@ pub(crate) fn defined(node: Node, columns: Items<Col>) -> Result<Defined, Stop>
 /// The places that references mean, from left to right.
 pub(crate) fn fields_of(
     alloc: Global,
-    columns: &[Col],
+    columns: &[Col<'_>],
     fields: &[Field],
 ) -> Result<Items<u32>, Stop>
     ensures { Gives result (spec.fields_of columns.now [] fields.now) }
@@ -92,35 +99,35 @@ pub(crate) fn fields_of(
     Ok(places)
 }
 
-/// Copies of the columns at these places.
-pub(crate) fn columns_at(
+/// The columns at these places.
+pub(crate) fn columns_at<'a>(
     alloc: Global,
-    columns: &[Col],
+    columns: &[Col<'a>],
     places: &[u32],
-) -> Result<Items<Col>, AllocError>
+) -> Result<Items<Col<'a>>, AllocError>
     ensures { IfOk result (λ cs. cs ≡ spec.columns_at columns.now places.now) }
 {
     let mut all = Items::new(alloc);
     for place in places {
-        all.push(column_at(alloc, columns, *place)?)?;
+        all.push(column_at(columns, *place))?;
     }
     Ok(all)
 }
 
 /// FILTER: it keeps the columns.
-pub(crate) fn filter_rows(
+pub(crate) fn filter_rows<'a>(
     alloc: Global,
-    done: &Aliases<'_>,
+    done: &Aliases<'a>,
     from: &[u8],
     cond: &Expr,
-) -> Result<Defined, Stop>
+) -> Result<Defined<'a>, Stop>
     ensures { Gives result (spec.filter_rows done.now from.now cond.now) }
 {
     let (at, scope) = known(done, from)?;
     let columns = ungrouped(scope)?;
     let typed = expr_of(cond, alloc, scope)?;
     check(is_condition(typed.sort))?;
-    let columns = copy_columns(alloc, columns)?;
+    let columns = columns_again(alloc, columns)?;
     let node = Node::Filter {
         from: at,
         cond: typed.expr.into_inner(),
@@ -131,14 +138,14 @@ pub(crate) fn filter_rows(
     })
 }
 
-/// FOREACH over rows or over groups.
-pub(crate) fn foreach(
+/// FOREACH over rows or over groups, by its items as far as they are kept.
+fn foreach_kept<'a>(
     alloc: Global,
-    done: &Aliases<'_>,
+    done: &Aliases<'a>,
     from: &[u8],
-    items: &[Item],
-) -> Result<Defined, Stop>
-    ensures { Gives result (spec.foreach done.now from.now items.now) }
+    items: &'a [Item],
+) -> Result<Defined<'a>, Stop>
+    ensures { Gives result (kept.foreach done.now from.now items.now) }
 {
     let (at, scope) = known(done, from)?;
     let made = items_of(alloc, scope, items)?;
@@ -151,21 +158,33 @@ pub(crate) fn foreach(
     )
 }
 
-/// GROUP: a bag, named by the alias, and the BY columns.
-pub(crate) fn group(
+/// FOREACH over rows or over groups.
+pub(crate) fn foreach<'a>(
     alloc: Global,
-    done: &Aliases<'_>,
+    done: &Aliases<'a>,
     from: &[u8],
+    items: &'a [Item],
+) -> Result<Defined<'a>, Stop>
+    ensures { Gives result (spec.foreach done.now from.now items.now) }
+{
+    foreach_kept(alloc, done, from, items)
+}
+
+/// GROUP: a bag, named by the alias, and the BY columns.
+pub(crate) fn group<'a>(
+    alloc: Global,
+    done: &Aliases<'a>,
+    from: &'a [u8],
     by: &[Field],
-) -> Result<Defined, Stop>
+) -> Result<Defined<'a>, Stop>
     ensures { Gives result (spec.group done.now from.now by.now) }
 {
     let (at, scope) = known(done, from)?;
     let columns = ungrouped(scope)?;
     let places = fields_of(alloc, columns, by)?;
-    let bag = Items::from_slice(alloc, from)?;
+    let bag = Text::new(from);
     let by = columns_at(alloc, columns, places.as_slice())?;
-    let columns = copy_columns(alloc, columns)?;
+    let columns = columns_again(alloc, columns)?;
     let node = Node::Group {
         from: at,
         columns: places,
@@ -177,12 +196,16 @@ pub(crate) fn group(
 }
 
 /// DISTINCT: it keeps the columns.
-pub(crate) fn distinct(alloc: Global, done: &Aliases<'_>, from: &[u8]) -> Result<Defined, Stop>
+pub(crate) fn distinct<'a>(
+    alloc: Global,
+    done: &Aliases<'a>,
+    from: &[u8],
+) -> Result<Defined<'a>, Stop>
     ensures { Gives result (spec.distinct done.now from.now) }
 {
     let (at, scope) = known(done, from)?;
     let columns = ungrouped(scope)?;
-    let columns = copy_columns(alloc, columns)?;
+    let columns = columns_again(alloc, columns)?;
     Ok(Defined {
         node: Node::Distinct { from: at },
         scope: Scope::Rows { columns },

@@ -65,7 +65,7 @@ fn channels(alloc: Global, kinds: &str) -> Result<Channels, AllocError> {
 }
 
 /// What each script is, the kinds of the output, the script without its STORE, and its plan.
-const PLANS: [(&str, &str, &str, &str); 24] = [
+const PLANS: [(&str, &str, &str, &str); 27] = [
     (
         "the task pick",
         "LTL",
@@ -185,6 +185,24 @@ const PLANS: [(&str, &str, &str, &str); 24] = [
         "LL",
         "r = LOAD 'raw'; a = FOREACH r GENERATE id, 1; b = FOREACH r GENERATE id, 1; o = UNION a, b;",
         "load 0; foreach 0, #0, 1; foreach 0, #0, 1; union 1 2; store 3; no key",
+    ),
+    (
+        "a number over a group is constant",
+        "LL",
+        "r = LOAD 'raw'; g = GROUP r BY ms; x = FOREACH g GENERATE group, 1; y = FOREACH g GENERATE group, 2; o = UNION x, y;",
+        "load 0; group 0 2; foreach 1, @0, 1; foreach 1, @0, 2; union 2 3; store 4; key 0 1",
+    ),
+    (
+        "a literal over a group is constant",
+        "TL",
+        "r = LOAD 'raw'; g = GROUP r BY ms; x = FOREACH g GENERATE 'a', group; y = FOREACH g GENERATE 'b', $0; o = UNION x, y;",
+        "load 0; group 0 2; foreach 1, 'a', @0; foreach 1, 'b', @0; union 2 3; store 4; key 0 1",
+    ),
+    (
+        "a BY value of a constant column isn't constant",
+        "LL",
+        "r = LOAD 'raw'; a = FOREACH r GENERATE id, 1 AS k; b = FOREACH r GENERATE id, 2 AS k; g = GROUP a BY (id, k); h = GROUP b BY (id, k); x = FOREACH g GENERATE FLATTEN(group); y = FOREACH h GENERATE FLATTEN(group); o = UNION x, y;",
+        "load 0; foreach 0, #0, 1; foreach 0, #0, 2; group 1 0 1; group 2 0 1; foreach 3, @0, @1; foreach 4, @0, @1; union 5 6; store 7; no key",
     ),
     (
         "DISTINCT keeps a key",
@@ -470,6 +488,8 @@ fn widths(rt: HostRuntime) -> Result<(), Fail> {
         ("id", "schema differs 3"),
         ("id, id", "too wide 2"),
         ("id, id, speed", "unknown field 2"),
+        ("*, *, id, speed", "unknown field 2"),
+        ("*, *, FLATTEN(group)", "bag misused 2"),
     ];
     for (more, fault) in &cases {
         let text = format!(in rt.alloc();

@@ -1,6 +1,6 @@
 use Rattle.std.proofs.Common.{◌≡◌, drop}
-use Rattle.nova_pig_plan.specs.Items as spec
+use Rattle.nova_pig_plan.specs.Kept as kept
 use Rattle.nova_pig_plan.proofs.items.add_all.Given as goal
 
 abbrev pub invariant-loop-at : goal.invariant-loop-at
-invariant-loop-at l = spec.with_all 0 l.fn.made l.columns ≡ spec.with_all l.at l.made (drop l.at l.columns)
+invariant-loop-at l = kept.with_all 0 l.fn.made l.columns ≡ kept.with_all l.at l.made (drop l.at l.columns)

@@ -1,0 +1,6 @@
+use Rattle.std.proofs.Common.{◌≡◌, drop}
+use Rattle.nova_pig_algebra.specs.Keys as spec
+use Rattle.nova_pig_algebra.proofs.places.place_by.Given as goal
+
+abbrev pub invariant-loop-at : goal.invariant-loop-at
+invariant-loop-at l = spec.place_of (spec.is_by l.columns l.column) l.items ≡ spec.place_from (spec.is_by l.columns l.column) l.at (drop l.at l.items)

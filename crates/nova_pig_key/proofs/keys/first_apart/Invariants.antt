@@ -1,6 +1,0 @@
-use Rattle.std.proofs.Common.{◌≡◌, ◌-◌}
-use Rattle.nova_pig_algebra.specs.Keys as spec
-use Rattle.nova_pig_key.proofs.keys.first_apart.Given as goal
-
-abbrev pub invariant-loop-column : goal.invariant-loop-column
-invariant-loop-column l = spec.first_apart l.arms 0 l.width ≡ spec.first_apart l.arms l.column (l.width - l.column)

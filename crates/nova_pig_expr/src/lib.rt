@@ -8,8 +8,6 @@ mod fault;
 mod operators;
 mod parser;
 mod read;
-#[cfg(test)]
-mod tests;
 
 pub use fault::Fault;
 pub use parser::Parser;

@@ -3,7 +3,5 @@
 
 mod item;
 mod statement;
-#[cfg(test)]
-mod tests;
 
 pub use statement::{cut_body, one_statement, statement_body};

@@ -11,8 +11,6 @@ mod operators;
 mod parser;
 mod read;
 mod statement;
-#[cfg(test)]
-mod tests;
 
 pub use fault::Fault;
 pub use read::{one_reading, read_expr};

@@ -2,7 +2,5 @@
 #![tactic(auto)]
 
 mod script;
-#[cfg(test)]
-mod tests;
 
 pub use script::{ScriptFault, plan_of_text};

@@ -1,22 +1,10 @@
-//! A plan as text: a column as `#k`, a BY value as `@k`, each operation in parentheses.
-
-use super::*;
-
-type Done = Result<(), AllocError>;
-
-fn add(out: &mut Vec<u8>, text: &str) -> Done {
-    out.extend_from_slice(text.as_bytes())
-}
-
-fn add_place(alloc: Global, out: &mut Vec<u8>, n: u32) -> Done {
-    let text = format!(in alloc; "{n}")?;
-    add(out, text.as_str())
-}
-
-fn add_number(alloc: Global, out: &mut Vec<u8>, n: i64) -> Done {
-    let text = format!(in alloc; "{n}")?;
-    add(out, text.as_str())
-}
+//! A plan as text, a line a node: a column as `#k`, a BY value as `@k`, each operation in parentheses.
+use crate::text::{Done, add, add_line, add_number, add_place, sign};
+use nova_pig_algebra::{Node, PlanExpr};
+use nova_pig_plan::{Channels, Plan};
+use nova_pig_script::{ScriptFault, plan_of_text};
+use nova_pig_tree::{CallKind, Str};
+use std::alloc::{AllocError, Global};
 
 fn add_literal(out: &mut Vec<u8>, text: &Str) -> Done {
     add(out, "'")?;
@@ -34,20 +22,9 @@ fn add_call(alloc: Global, out: &mut Vec<u8>, kind: CallKind, column: Option<u32
     add(out, name)?;
     if let Some(column) = column {
         add(out, " ")?;
-        add_place(alloc, out, column)?;
+        add_place(alloc, out, u64::from(column))?;
     }
     Ok(())
-}
-
-fn sign(op: CompareOp) -> &'static str {
-    match op {
-        CompareOp::Eq => " == ",
-        CompareOp::Ne => " != ",
-        CompareOp::Lt => " < ",
-        CompareOp::Le => " <= ",
-        CompareOp::Gt => " > ",
-        CompareOp::Ge => " >= ",
-    }
 }
 
 fn add_expr(alloc: Global, out: &mut Vec<u8>, expr: &PlanExpr) -> Done {
@@ -56,11 +33,11 @@ fn add_expr(alloc: Global, out: &mut Vec<u8>, expr: &PlanExpr) -> Done {
         PlanExpr::Lit(text) => add_literal(out, text),
         PlanExpr::Col(k) => {
             add(out, "#")?;
-            add_place(alloc, out, *k)
+            add_place(alloc, out, u64::from(*k))
         }
         PlanExpr::GroupCol(k) => {
             add(out, "@")?;
-            add_place(alloc, out, *k)
+            add_place(alloc, out, u64::from(*k))
         }
         PlanExpr::Agg { kind, column } => add_call(alloc, out, *kind, *column),
         PlanExpr::Add(a, b) => {
@@ -130,14 +107,14 @@ fn add_expr(alloc: Global, out: &mut Vec<u8>, expr: &PlanExpr) -> Done {
 fn add_places(alloc: Global, out: &mut Vec<u8>, places: &[u32]) -> Done {
     for place in places {
         add(out, " ")?;
-        add_place(alloc, out, *place)?;
+        add_place(alloc, out, u64::from(*place))?;
     }
     Ok(())
 }
 
 fn add_from(alloc: Global, out: &mut Vec<u8>, word: &str, node: u32) -> Done {
     add(out, word)?;
-    add_place(alloc, out, node)
+    add_place(alloc, out, u64::from(node))
 }
 
 fn add_items(alloc: Global, out: &mut Vec<u8>, items: &[PlanExpr]) -> Done {
@@ -196,40 +173,21 @@ fn add_key(alloc: Global, out: &mut Vec<u8>, plan: &Plan) -> Done {
 fn add_plan(alloc: Global, out: &mut Vec<u8>, plan: &Plan) -> Done {
     for node in plan.nodes() {
         add_node(alloc, out, node)?;
-        add(out, "; ")?;
+        add(out, "\n")?;
     }
     add_from(alloc, out, "store ", plan.stored())?;
-    add(out, "; ")?;
-    add_key(alloc, out, plan)
+    add(out, "\n")?;
+    add_key(alloc, out, plan)?;
+    add(out, "\n")
 }
 
-fn add_fault(alloc: Global, out: &mut Vec<u8>, fault: PlanFault) -> Done {
-    match fault {
-        PlanFault::UnknownAlias { statement } => add_from(alloc, out, "unknown alias ", statement),
-        PlanFault::UnknownField { statement } => add_from(alloc, out, "unknown field ", statement),
-        PlanFault::Ambiguous { statement } => add_from(alloc, out, "ambiguous ", statement),
-        PlanFault::WrongType { statement } => add_from(alloc, out, "wrong type ", statement),
-        PlanFault::SchemaDiffers { statement } => {
-            add_from(alloc, out, "schema differs ", statement)
-        }
-        PlanFault::UnknownChannel { statement } => {
-            add_from(alloc, out, "unknown channel ", statement)
-        }
-        PlanFault::TooWide { statement } => add_from(alloc, out, "too wide ", statement),
-        PlanFault::BagMisused { statement } => add_from(alloc, out, "bag misused ", statement),
-        PlanFault::NoStore { statement } => add_from(alloc, out, "no store ", statement),
-        PlanFault::AliasTwice { statement } => add_from(alloc, out, "alias twice ", statement),
-        PlanFault::NoMemory => add(out, "no memory"),
-    }
-}
-
-/// What is answered of a text, as text.
+/// The plan of the text over the channels, or the first fault.
 pub fn show(alloc: Global, text: &str, channels: &Channels) -> Result<Vec<u8>, AllocError> {
     let mut out = Vec::new(alloc);
     match plan_of_text(alloc, text, channels) {
         Ok(plan) => add_plan(alloc, &mut out, &plan)?,
-        Err(ScriptFault::Plan(fault)) => add_fault(alloc, &mut out, fault)?,
-        Err(ScriptFault::Parse(_)) => add(&mut out, "no script")?,
+        Err(ScriptFault::Plan(fault)) => add_line(alloc, &mut out, fault)?,
+        Err(ScriptFault::Parse(fault)) => add_line(alloc, &mut out, fault)?,
     }
     Ok(out)
 }

@@ -1,20 +1,14 @@
-//! A tree as text: each operation in parentheses, each statement with its span.
-
-use super::*;
-
-type Done = Result<(), AllocError>;
-
-fn add(out: &mut Vec<u8>, text: &str) -> Done {
-    out.extend_from_slice(text.as_bytes())
-}
+//! A tree as text: each operation in parentheses, each statement on a line with its span.
+use crate::text::{Done, add, add_line, add_number, add_place, sign};
+use nova_pig_grammar::{read_expr, statement_body};
+use nova_pig_parse::parse;
+use nova_pig_scan::tokens_of;
+use nova_pig_tree::{Body, CallKind, Expr, Field, Item, Kind, Op, Placed, Script, Str};
+use sqlite_items::Items;
+use std::alloc::{AllocError, Global};
 
 fn add_text(out: &mut Vec<u8>, text: &Str) -> Done {
     out.extend_from_slice(text.bytes())
-}
-
-fn add_place(alloc: Global, out: &mut Vec<u8>, n: u64) -> Done {
-    let text = format!(in alloc; "{n}")?;
-    add(out, text.as_str())
 }
 
 fn add_field(alloc: Global, out: &mut Vec<u8>, field: &Field) -> Done {
@@ -56,22 +50,6 @@ fn add_call(
         add_field(alloc, out, field)?;
     }
     add(out, ")")
-}
-
-fn sign(op: CompareOp) -> &'static str {
-    match op {
-        CompareOp::Eq => " == ",
-        CompareOp::Ne => " != ",
-        CompareOp::Lt => " < ",
-        CompareOp::Le => " <= ",
-        CompareOp::Gt => " > ",
-        CompareOp::Ge => " >= ",
-    }
-}
-
-fn add_number(alloc: Global, out: &mut Vec<u8>, n: i64) -> Done {
-    let text = format!(in alloc; "{n}")?;
-    add(out, text.as_str())
 }
 
 fn add_literal(out: &mut Vec<u8>, text: &Str) -> Done {
@@ -254,40 +232,69 @@ fn add_script(alloc: Global, out: &mut Vec<u8>, script: &Script) -> Done {
         add_place(alloc, out, statement.end)?;
         add(out, " ")?;
         add_body(alloc, out, &statement.body)?;
-        add(out, "; ")?;
+        add(out, "\n")?;
     }
     Ok(())
 }
 
-fn add_fault(alloc: Global, out: &mut Vec<u8>, fault: ParseFault) -> Done {
-    match fault {
-        ParseFault::Token { at } => {
-            add(out, "token ")?;
-            add_place(alloc, out, at)
-        }
-        ParseFault::Syntax { at } => {
-            add(out, "syntax ")?;
-            add_place(alloc, out, at)
-        }
-        ParseFault::TooLong => add(out, "too long"),
-        ParseFault::TooDeep { at } => {
-            add(out, "too deep ")?;
-            add_place(alloc, out, at)
-        }
-        ParseFault::NumberTooLarge { at } => {
-            add(out, "too large ")?;
-            add_place(alloc, out, at)
-        }
-        ParseFault::NoMemory => add(out, "no memory"),
-    }
-}
-
-/// What is read of a text, as text.
+/// The tree of the text, or its fault.
 pub fn show(alloc: Global, text: &str) -> Result<Vec<u8>, AllocError> {
     let mut out = Vec::new(alloc);
     match parse(alloc, text) {
         Ok(script) => add_script(alloc, &mut out, &script)?,
-        Err(fault) => add_fault(alloc, &mut out, fault)?,
+        Err(fault) => add_line(alloc, &mut out, fault)?,
+    }
+    Ok(out)
+}
+
+/// The text's tokens, if it has some.
+fn tokens(alloc: Global, text: &str) -> Option<Items<Placed>> {
+    if text.len() > 65_536 {
+        return None;
+    }
+    tokens_of(alloc, text).ok()
+}
+
+/// The places of the text's tokens.
+pub fn show_tokens(alloc: Global, text: &str) -> Result<Vec<u8>, AllocError> {
+    let mut out = Vec::new(alloc);
+    let Some(tokens) = tokens(alloc, text) else {
+        return b"no tokens\n".to_vec(alloc);
+    };
+    for token in tokens.as_slice() {
+        let (start, end) = (token.start, token.end);
+        let line = format!(in alloc; "{start}-{end}\n")?;
+        add(&mut out, line.as_str())?;
+    }
+    Ok(out)
+}
+
+fn add_expression(alloc: Global, out: &mut Vec<u8>, tokens: &[Placed]) -> Done {
+    match read_expr(alloc, tokens) {
+        Ok(expr) => add_expr(alloc, out, expr.get())?,
+        Err(_) => add(out, "no expression")?,
+    }
+    add(out, "\n")
+}
+
+fn add_statement(alloc: Global, out: &mut Vec<u8>, tokens: &[Placed]) -> Done {
+    match statement_body(alloc, tokens) {
+        Ok(body) => add_body(alloc, out, &body)?,
+        Err(_) => add(out, "no statement")?,
+    }
+    add(out, "\n")
+}
+
+/// The tree of the text's tokens as one expression, or as one statement.
+pub fn show_part(alloc: Global, text: &str, is_expression: bool) -> Result<Vec<u8>, AllocError> {
+    let mut out = Vec::new(alloc);
+    let Some(tokens) = tokens(alloc, text) else {
+        return b"no tokens\n".to_vec(alloc);
+    };
+    if is_expression {
+        add_expression(alloc, &mut out, tokens.as_slice())?;
+    } else {
+        add_statement(alloc, &mut out, tokens.as_slice())?;
     }
     Ok(out)
 }

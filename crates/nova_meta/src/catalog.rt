@@ -91,8 +91,8 @@ impl Catalog {
 
     /// What a commit that was prepared by this catalog as it stands makes of it.
     pub fn apply(&mut self, prepared: Prepared)
-        requires { (commit : Commit) × IsPrepared self.old commit prepared.change }
-        ensures { (commit : Commit) → IsPrepared self.old commit prepared.change → self.new ≡ applied self.old commit }
+        requires { (commit : Commit) × IsPrepared self.old commit prepared }
+        ensures { (commit : Commit) → IsPrepared self.old commit prepared → self.new ≡ applied self.old commit }
     {
         let Prepared { change } = prepared;
         self.change(change);

@@ -109,7 +109,7 @@ impl Catalog {
         alloc: Global,
         kept: &[u64],
     ) -> Result<Prepared, MetaFault>
-        ensures prepared { IfOk result (λ prepared. IsPrepared self.now (Collected kept.now) prepared.change) }
+        ensures prepared { IfOk result (λ prepared. IsPrepared self.now (Collected kept.now) prepared) }
         ensures refused { result ≡ Err BadRecord → allows self.now (Collected kept.now) ≡ false }
     {
         if !self.begun || !is_rising(kept) {

@@ -101,7 +101,7 @@ impl Catalog {
     }
 
     fn prepare_flow(&self) -> Result<Prepared, MetaFault>
-        ensures prepared { IfOk result (λ prepared. (text : List ℕ) → IsPrepared self.now (Flow text) prepared.change) }
+        ensures prepared { IfOk result (λ prepared. (text : List ℕ) → IsPrepared self.now (Flow text) prepared) }
         ensures refused { result ≡ Err BadRecord → (text : List ℕ) → allows self.now (Flow text) ≡ false }
     {
         if self.begun {
@@ -119,7 +119,7 @@ impl Catalog {
         block: u64,
         size: u64,
     ) -> Result<Prepared, MetaFault>
-        ensures prepared { IfOk result (λ prepared. IsPrepared self.now (Load channel block size) prepared.change) }
+        ensures prepared { IfOk result (λ prepared. IsPrepared self.now (Load channel block size) prepared) }
         ensures refused { result ≡ Err BadRecord → allows self.now (Load channel block size) ≡ false }
     {
         if !self.may_load(channel, block, size) {
@@ -136,7 +136,7 @@ impl Catalog {
     }
 
     fn prepare_tick(&self, moment: u64) -> Result<Prepared, MetaFault>
-        ensures prepared { IfOk result (λ prepared. IsPrepared self.now (Tick moment) prepared.change) }
+        ensures prepared { IfOk result (λ prepared. IsPrepared self.now (Tick moment) prepared) }
         ensures refused { result ≡ Err BadRecord → allows self.now (Tick moment) ≡ false }
     {
         if !self.begun || moment < self.moment {
@@ -156,7 +156,7 @@ impl Catalog {
         block: u64,
         size: u64,
     ) -> Result<Prepared, MetaFault>
-        ensures prepared { IfOk result (λ prepared. IsPrepared self.now (Joined channel from to block size) prepared.change) }
+        ensures prepared { IfOk result (λ prepared. IsPrepared self.now (Joined channel from to block size) prepared) }
         ensures refused { result ≡ Err BadRecord → allows self.now (Joined channel from to block size) ≡ false }
     {
         if !self.may_join(channel, from, to, block, size) {
@@ -176,7 +176,7 @@ impl Catalog {
     /// What a commit changes, with all the memory that this takes; the catalog stays as it is.
     pub fn prepare(&self, alloc: Global, commit: &Commit) -> Result<Prepared, MetaFault>
         // It keeps the rules, and this leads to the catalog with the commit more.
-        ensures prepared { IfOk result (λ prepared. IsPrepared self.now commit.now prepared.change) }
+        ensures prepared { IfOk result (λ prepared. IsPrepared self.now commit.now prepared) }
         // A refusal for another cause than memory says that it breaks a rule.
         ensures refused { result ≡ Err BadRecord → allows self.now commit.now ≡ false }
     {

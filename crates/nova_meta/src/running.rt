@@ -202,7 +202,7 @@ impl Catalog {
         size: u64,
         parts: &[PartFile],
     ) -> Result<Prepared, MetaFault>
-        ensures prepared { IfOk result (λ prepared. IsPrepared self.now (Run task versions.now moment seen block size parts.now) prepared.change) }
+        ensures prepared { IfOk result (λ prepared. IsPrepared self.now (Run task versions.now moment seen block size parts.now) prepared) }
         ensures refused { result ≡ Err BadRecord → allows self.now (Run task versions.now moment seen block size parts.now) ≡ false }
     {
         let yes = self.may_run(alloc, task, versions, moment, seen, block, size, parts)?;

@@ -24,6 +24,9 @@ pub fn leads(alloc: Global, intervals: &[Interval], from: u64, to: u64) -> Resul
     requires { IsShelf intervals.now }
     ensures { IfOk result (λ yes. yes ≡ leads intervals.now from to) }
 {
+    if from == to {
+        return Ok(true);
+    }
     if from > to {
         return Ok(false);
     }

@@ -1,5 +1,5 @@
 -- What is read is spelled so, what is spelled so is read, and faults are those of the cases.
-use Rattle.std.proofs.Common.{◌≡◌, ◌⊎◌, inl, inr, ℕ, ℤ, pos, negsuc, ◌+◌, ◌^◌, ◌<◌, ◌≤◌, Bool, true, false, cond, ltb, List, ◌++◌, length, get_or, take, drop, Result, Ok, Err, refl, sym, ap, subst, ◌∙◌, append_assoc, arith, ◌&&◌}
+use Rattle.std.proofs.Common.{◌≡◌, ◌⊎◌, inl, inr, ℕ, ℤ, pos, negsuc, ◌+◌, ◌^◌, ◌<◌, ◌≤◌, Bool, true, false, cond, ltb, List, ◌++◌, length, take, drop, Result, Ok, Err, refl, sym, ap, subst, ◌∙◌, append_assoc, arith, ◌&&◌}
 use Rattle.std.specs.Int.{w16, w64, from_be_bytes, cast_signed, cast_unsigned}
 use Rattle.std.specs.Int.RustNames.{FitsSigned}
 use Rattle.std.specs.Str.{is_utf8}
@@ -19,15 +19,13 @@ use Rattle.nova_row_codec.specs.declared.fault.CodecFault.TheVariants.{Short, Ba
 use Rattle.nova_row_codec.specs.Spelling.{two, eight, value_bytes}
 use Rattle.nova_row_codec.specs.Faults.{ValueFails}
 use Rattle.nova_row_codec.specs.Faults as fault
+pub use Rattle.nova_row_codec.specs.Written.{IsBytes}
 use Rattle.nova_row_codec.specs.Reading.{◌>>=◌, long_at, text_of, text_after, text_at, value_at}
 
 -- an `i64` is a long
 long_from_fits : (n : ℤ) → FitsSigned w64 n → IsLong n
 long_from_fits (pos n) h = grind (arith, ints)
 long_from_fits (negsuc n) h = grind (arith, ints)
-
-abbrev pub IsBytes : List ℕ → Type 0
-IsBytes bytes = (i : ℕ) → get_or bytes i 0 < 256
 
 pub bytes_drop : (n : ℕ) (bytes : List ℕ) → IsBytes bytes → IsBytes (drop n bytes)
 bytes_drop n bytes h i = rw get_or-drop (h (n + i))
@@ -71,7 +69,7 @@ pub record IsField {X : Type 0} (field : List ℕ → Result (X × List ℕ) Cod
 
 -- ---- longs
 
-eight_back : (bytes : List ℕ) → IsBytes bytes → 8 ≤ length bytes → (eight (from_be_bytes w64 (take 8 bytes)) ≡ take 8 bytes) × (from_be_bytes w64 (take 8 bytes) < 2 ^ 64)
+pub eight_back : (bytes : List ℕ) → IsBytes bytes → 8 ≤ length bytes → (eight (from_be_bytes w64 (take 8 bytes)) ≡ take 8 bytes) × (from_be_bytes w64 (take 8 bytes) < 2 ^ 64)
 eight_back bytes fits long =
     let t = bytes_take 8 bytes fits in
     (be_bytes_8 (take 8 bytes) _ (length-take-le 8 bytes long) t refl, omega (arith, t 0, t 1, t 2, t 3, t 4, t 5, t 6, t 7))

@@ -5,3 +5,4 @@ pub mod Entries
 pub mod Once
 pub mod Blocks
 pub mod Lengths
+pub mod Settled

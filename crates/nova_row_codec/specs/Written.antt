@@ -1,5 +1,5 @@
 -- What reading gives, by the spellings and their faults.
-use Rattle.std.specs.Prelude.{◌≡◌, ℕ, ◌+◌, ◌<◌, ◌^◌, T, List, ◌++◌, length, drop, Result, Ok, Err}
+use Rattle.std.specs.Prelude.{◌≡◌, ℕ, ◌+◌, ◌<◌, ◌^◌, T, List, ◌++◌, length, slice_index_or, drop, Result, Ok, Err}
 use Rattle.std.specs.List.{AllByRecursion}
 use Rattle.nova_value.specs.declared.schema.Entry.{Entry}
 use Rattle.nova_value.specs.Rows.{Shape}
@@ -9,6 +9,10 @@ use Rattle.nova_delta.specs.Listed.{entries_of, rises}
 use Rattle.nova_row_codec.specs.declared.fault.CodecFault.{CodecFault}
 use Rattle.nova_row_codec.specs.Spelling.{eight, entry_bytes, entries_bytes, block_bytes, spelling_of}
 use Rattle.nova_row_codec.specs.Faults.{EntryFails, BlockFails}
+
+-- each is a byte
+abbrev pub IsBytes : List ℕ → Type 0
+IsBytes bytes = (i : ℕ) → slice_index_or bytes i 0 < 256
 
 -- the entry that the bytes begin with and the bytes after it, or the first fault
 abbrev pub ReadsEntry : Shape → List ℕ → Result (Entry × List ℕ) CodecFault → Type 0

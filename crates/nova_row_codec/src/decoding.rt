@@ -1,5 +1,5 @@
 //! Entries from bytes.
-ghost use Rattle.std.specs.Prelude.{◌≡◌, ◌≢◌, ◌≤◌, ◌<◌, ◌^◌, length, drop, IfOk, IfErr, true};
+ghost use Rattle.std.specs.Prelude.{◌≡◌, ◌≢◌, ◌≤◌, ◌<◌, length, drop, IfOk, IfErr, true};
 ghost use Rattle.nova_value.specs.Text.{is_clean};
 ghost use Rattle.nova_value.specs.Signs.{kinds_for};
 ghost use Rattle.nova_row_codec.specs.Faults.{EntryFails};

@@ -1,6 +1,6 @@
 //! Entries as bytes.
 ghost use Rattle.std.specs.Prelude.{◌≡◌, ◌≤◌, ◌∷◌, ◌++◌, length, take, OnOk, OnErr};
-ghost use Rattle.nova_row_codec.specs.Spelling.{two, eight, value_bytes, values_bytes, entry_bytes};
+ghost use Rattle.nova_row_codec.specs.Spelling.{two, value_bytes, values_bytes, entry_bytes};
 
 use nova_value::{Entry, Value};
 use std::alloc::{AllocError, Global};

@@ -12,7 +12,7 @@ pub enum CodecFault {
     #[error("the bytes end before the entry does")]
     Short,
     /// The tag is neither 0 nor 1, or bytes are left after the last entry.
-    #[error("the tag is neither 0 nor 1")]
+    #[error("the tag is neither 0 nor 1, or bytes are left")]
     BadTag,
     /// A text isn't UTF-8, or has a tab or a newline.
     #[error("a text isn't UTF-8, or has a tab or a newline")]

@@ -1,16 +1,14 @@
 use crate::DirHost;
-use crate::folder::Folder;
-use nova_outside::Host;
-use std::alloc::{AllocError, Allocator, Global};
+use nova_outside::{Failed, Host};
+use std::alloc::{AllocError, AllocGlobal, Allocator, Global};
 use std::cell::Cell;
+use std::fmt::Display;
 use std::fs::{File, Metadata, OpenOptions};
-use std::io::ErrorKind;
+use std::io::{ErrorKind, Print};
 use std::process::Abort;
 use std::rt::Files;
 use std::test::Fail;
 use std::{fs, io};
-
-const FOLDER: &str = "nova_dir_test";
 
 // The system's files, but that this path can be neither opened nor removed, and that what is opened
 // is counted.
@@ -45,6 +43,20 @@ impl Alloc for Watched {
 
     fn alloc(&self) -> Global {
         self.rt.alloc()
+    }
+}
+
+impl Print for Watched {
+    fn print<D: Display + Drop>(&self, value: D) -> io::Result<()> {
+        self.rt.print(value)
+    }
+
+    fn println<D: Display + Drop>(&self, value: D) -> io::Result<()> {
+        self.rt.println(value)
+    }
+
+    fn write_all(&self, bytes: &[u8]) -> io::Result<()> {
+        self.rt.write_all(bytes)
     }
 }
 
@@ -97,129 +109,201 @@ impl Files for Watched {
     }
 }
 
-#[test]
-fn contents(rt: HostRuntime) -> Result<(), Fail> {
-    let _ = fs::remove_dir_all(&rt, FOLDER);
-    let mut host = DirHost::new(&rt, FOLDER);
-    assert_eq!(rt; host.size(1)?, None, "no folder yet");
-    assert_eq!(rt; host.next_file(None)?, None, "no folder, no file");
-    host.remove(1)?;
-    host.create(12)?;
-    host.write(12, 0, b"abcdef")?;
-    host.write(12, 3, b"XYZW")?;
-    let mut into = [0; 8];
-    assert_eq!(rt; host.read(12, 1, &mut into)?, 6, "read at 1");
-    assert_eq!(rt; into, *b"bcXYZW\0\0", "bytes at 1");
-    for at in [7, 9, 1 << 63, u64::MAX] {
-        assert_eq!(rt; host.read(12, at, &mut into)?, 0, "read at {at}");
+// A call on a host, with the file and what else it takes: an offset, and the bytes to write.
+#[derive(Clone, Copy, Debug)]
+enum Call {
+    Size(u64),
+    Read(u64, u64),
+    Create(u64),
+    Write(u64, u64, &'static str),
+    Sync(u64),
+    Remove(u64),
+    Next(Option<u64>),
+    Reply(&'static str),
+}
+
+// What a call answers. A read into eight bytes that were 0 answers how many it gave, and them.
+#[derive(Clone, Copy, Debug, PartialEq, Eq)]
+enum Answer {
+    Done,
+    Failed,
+    Absent,
+    Number(u64),
+    Bytes(usize, [u8; 8]),
+}
+
+fn done(answer: Result<(), Failed>) -> Answer {
+    match answer {
+        Ok(()) => Answer::Done,
+        Err(Failed) => Answer::Failed,
     }
-    assert_eq!(rt; host.size(12)?, Some(7), "size");
-    host.sync(12)?;
-    host.write(12, 1, b"-")?;
-    assert_eq!(rt; host.read(12, 0, &mut into)?, 7, "read after the sync");
-    assert_eq!(rt; into, *b"a-cXYZW\0", "bytes after the sync");
-    host.create(12)?;
-    assert_eq!(rt; host.size(12)?, Some(0), "made again over its bytes");
-    assert!(rt;
-        host.write(9, 0, b"x").is_err(),
-        "an absent file is written"
-    );
-    assert!(rt;
-        host.read(9, 0, &mut into).is_err(),
-        "an absent file is read"
-    );
-    host.reply(b"a reply\n")?;
-    Ok(())
+}
+
+fn found(answer: Result<Option<u64>, Failed>) -> Answer {
+    match answer {
+        Ok(Some(number)) => Answer::Number(number),
+        Ok(None) => Answer::Absent,
+        Err(Failed) => Answer::Failed,
+    }
+}
+
+fn bytes_at<R: Files<File = File> + Print + AllocGlobal>(
+    host: &mut DirHost<'_, R>,
+    file: u64,
+    at: u64,
+) -> Answer {
+    let mut into = [0; 8];
+    match host.read(file, at, &mut into) {
+        Ok(count) => Answer::Bytes(count, into),
+        Err(Failed) => Answer::Failed,
+    }
+}
+
+fn answer_of<R: Files<File = File> + Print + AllocGlobal>(
+    host: &mut DirHost<'_, R>,
+    call: Call,
+) -> Answer {
+    match call {
+        Call::Size(file) => found(host.size(file)),
+        Call::Read(file, at) => bytes_at(host, file, at),
+        Call::Create(file) => done(host.create(file)),
+        Call::Write(file, at, bytes) => done(host.write(file, at, bytes.as_bytes())),
+        Call::Sync(file) => done(host.sync(file)),
+        Call::Remove(file) => done(host.remove(file)),
+        Call::Next(after) => found(host.next_file(after)),
+        Call::Reply(bytes) => done(host.reply(bytes.as_bytes())),
+    }
+}
+
+// Makes these calls one after the other and compares their answers with those wanted.
+fn assert_answers<R: Files<File = File> + Print + AllocGlobal>(
+    rt: &impl Abort,
+    host: &mut DirHost<'_, R>,
+    calls: &[(Call, Answer)],
+) {
+    for (call, wanted) in calls {
+        let answer = answer_of(host, *call);
+        assert_eq!(rt; answer, *wanted, "{call:?}");
+    }
+}
+
+// Removes a test's folder, also one that a failed run left.
+fn clear(rt: &HostRuntime, folder: &str) {
+    let _ = fs::remove_dir_all(rt, folder);
+}
+
+#[test]
+fn files(rt: HostRuntime) {
+    clear(&rt, "nova_dir_files");
+    let calls = [
+        (Call::Size(1), Answer::Absent),
+        (Call::Next(None), Answer::Absent),
+        (Call::Remove(1), Answer::Done),
+        (Call::Read(1, 0), Answer::Failed),
+        (Call::Write(1, 0, "x"), Answer::Failed),
+        (Call::Create(12), Answer::Done),
+        (Call::Write(12, 0, "abcdef"), Answer::Done),
+        (Call::Write(12, 3, "XYZW"), Answer::Done),
+        (Call::Size(12), Answer::Number(7)),
+        (Call::Read(12, 1), Answer::Bytes(6, *b"bcXYZW\0\0")),
+        (Call::Sync(12), Answer::Done),
+        (Call::Write(12, 1, "-"), Answer::Done),
+        (Call::Read(12, 0), Answer::Bytes(7, *b"a-cXYZW\0")),
+        (Call::Read(12, 7), Answer::Bytes(0, [0; 8])),
+        (Call::Read(12, 9), Answer::Bytes(0, [0; 8])),
+        (Call::Read(12, 1 << 63), Answer::Bytes(0, [0; 8])),
+        (Call::Read(12, u64::MAX), Answer::Bytes(0, [0; 8])),
+        (Call::Create(12), Answer::Done),
+        (Call::Size(12), Answer::Number(0)),
+        (Call::Create(0), Answer::Done),
+        (Call::Next(None), Answer::Number(0)),
+        (Call::Create(5), Answer::Done),
+        (Call::Next(Some(0)), Answer::Number(5)),
+        (Call::Next(Some(5)), Answer::Number(12)),
+        (Call::Next(Some(12)), Answer::Absent),
+        (Call::Remove(5), Answer::Done),
+        (Call::Remove(5), Answer::Done),
+        (Call::Next(Some(0)), Answer::Number(12)),
+        (Call::Size(5), Answer::Absent),
+        (Call::Write(9, 0, "x"), Answer::Failed),
+        (Call::Read(9, 0), Answer::Failed),
+        (Call::Reply("a reply\n"), Answer::Done),
+    ];
+    assert_answers(&rt, &mut DirHost::new(&rt, "nova_dir_files/"), &calls);
+    clear(&rt, "nova_dir_files");
 }
 
 #[test]
 fn long_writes(rt: HostRuntime) -> Result<(), Fail> {
-    let mut host = DirHost::new(&rt, "nova_dir_long");
+    clear(&rt, "nova_dir_long");
     let mut bytes = vec![in rt.alloc(); 7u8; 70_000]?;
     bytes.extend_from_slice(b"end")?;
+    let mut into = vec![in rt.alloc(); 0u8; 80_000]?;
+    let mut host = DirHost::new(&rt, "nova_dir_long");
     host.create(3)?;
     host.write(3, 0, &bytes)?;
-    host.sync(3)?;
-    let mut into = vec![in rt.alloc(); 0u8; 80_000]?;
     assert_eq!(rt; host.read(3, 0, &mut into)?, 70_003, "read whole");
     assert_eq!(rt;
         into.get(69_999..70_004),
         Some(b"\x07end\0".as_slice()),
         "its last bytes"
     );
-    fs::remove_dir_all(&rt, "nova_dir_long")?;
+    clear(&rt, "nova_dir_long");
     Ok(())
 }
 
-// Compares what `next_file` answers from file to file with the files that are wanted.
-fn assert_files<R: Files<File = File> + AllocGlobal>(
-    rt: &impl Abort,
-    folder: &mut Folder<'_, R>,
-    wanted: &[u64],
-) -> Result<(), Fail> {
-    let mut last = None;
-    for file in wanted {
-        last = folder.next_file(last)?;
-        assert_eq!(rt; last, Some(*file), "of {wanted:?}");
-    }
-    assert_eq!(rt; folder.next_file(last)?, None, "behind {wanted:?}");
-    Ok(())
-}
-
-#[test]
-fn names(rt: HostRuntime) -> Result<(), Fail> {
-    let mut folder = Folder::new(&rt, "nova_dir_names/");
-    assert_files(&rt, &mut folder, &[])?;
-    folder.create(12)?;
-    folder.create(0)?;
-    assert_files(&rt, &mut folder, &[0, 12])?;
-    folder.create(5)?;
-    assert_eq!(rt;
-        folder.next_file(Some(0))?,
-        Some(5),
-        "made between two calls"
-    );
+// Makes a folder with the file 12, names that are no numbers, and numbers that are no plain files.
+fn make_other_names(rt: &HostRuntime) -> io::Result<()> {
+    fs::create_dir(rt, "nova_dir_names")?;
     for name in [
+        "nova_dir_names/12",
         "nova_dir_names/007",
         "nova_dir_names/+8",
         "nova_dir_names/notes",
     ] {
-        fs::write(&rt, name, "another name")?;
+        fs::write(rt, name, "bytes")?;
     }
-    fs::create_dir(&rt, "nova_dir_names/3")?;
-    rt.symlink("12", "nova_dir_names/4")?;
-    assert_files(&rt, &mut folder, &[0, 5, 12])?;
+    fs::create_dir(rt, "nova_dir_names/3")?;
+    rt.symlink("12", "nova_dir_names/4")
+}
+
+#[test]
+fn other_names(rt: HostRuntime) -> Result<(), Fail> {
+    clear(&rt, "nova_dir_names");
+    make_other_names(&rt)?;
+    let mut host = DirHost::new(&rt, "nova_dir_names");
+    let calls = [
+        (Call::Next(None), Answer::Number(12)),
+        (Call::Next(Some(12)), Answer::Absent),
+    ];
+    assert_answers(&rt, &mut host, &calls);
     for file in [3, 4] {
-        assert_eq!(rt; folder.size(file)?, None, "{file} is no plain file");
-        assert!(rt; folder.create(file).is_err(), "{file} is made");
-        assert!(rt; folder.write(file, 0, b"x").is_err(), "{file} is written");
-        assert!(rt; folder.read(file, 0, &mut [0]).is_err(), "{file} is read");
-        folder.sync(file)?;
-        folder.remove(file)?;
-        assert_eq!(rt;
-            folder.size(file)?,
-            None,
-            "{file} is none after the removal"
-        );
+        let calls = [
+            (Call::Size(file), Answer::Absent),
+            (Call::Create(file), Answer::Failed),
+            (Call::Write(file, 0, "x"), Answer::Failed),
+            (Call::Read(file, 0), Answer::Failed),
+            (Call::Sync(file), Answer::Done),
+            (Call::Remove(file), Answer::Done),
+            (Call::Size(file), Answer::Absent),
+        ];
+        assert_answers(&rt, &mut host, &calls);
     }
-    assert!(rt;
-        fs::symlink_metadata(&rt, "nova_dir_names/4")?.is_symlink(),
-        "the link was left"
-    );
-    folder.remove(5)?;
-    folder.remove(5)?;
-    assert_eq!(rt; folder.next_file(Some(0))?, Some(12), "after a removal");
-    fs::remove_dir_all(&rt, "nova_dir_names")?;
+    let kept = fs::symlink_metadata(&rt, "nova_dir_names/4")?.is_symlink();
+    assert!(rt; kept, "the link was left");
+    clear(&rt, "nova_dir_names");
     Ok(())
 }
 
 #[test]
 fn misplaced(rt: HostRuntime) -> Result<(), Fail> {
     fs::write(&rt, "nova_dir_file", "no folder")?;
+    let calls = [
+        (Call::Create(0), Answer::Failed),
+        (Call::Sync(0), Answer::Failed),
+    ];
     for path in ["nova_dir_file/folder", "nova_dir_absent/folder"] {
-        let mut host = DirHost::new(&rt, path);
-        assert!(rt; host.create(0).is_err(), "a file is made in {path}");
-        assert!(rt; host.sync(0).is_err(), "{path} is synced");
+        assert_answers(&rt, &mut DirHost::new(&rt, path), &calls);
     }
     fs::remove_file(&rt, "nova_dir_file")?;
     Ok(())
@@ -227,96 +311,82 @@ fn misplaced(rt: HostRuntime) -> Result<(), Fail> {
 
 #[test]
 fn failed_removal(rt: HostRuntime) -> Result<(), Fail> {
+    clear(&rt, "nova_dir_kept");
     let watched = Watched::new(rt.clone()?, "nova_dir_kept/4")?;
-    let mut folder = Folder::new(&watched, "nova_dir_kept");
-    folder.create(3)?;
+    fs::create_dir(&rt, "nova_dir_kept")?;
     fs::write(&rt, "nova_dir_kept/4", "not to be removed")?;
-    assert_files(&rt, &mut folder, &[3, 4])?;
-    assert!(rt; folder.remove(4).is_err(), "what can't be removed is");
-    assert_eq!(rt;
-        folder.next_file(Some(3))?,
-        Some(4),
-        "it is shown after that"
-    );
-    fs::remove_dir_all(&rt, "nova_dir_kept")?;
+    let calls = [
+        (Call::Create(3), Answer::Done),
+        (Call::Next(None), Answer::Number(3)),
+        (Call::Remove(4), Answer::Failed),
+        (Call::Next(Some(3)), Answer::Number(4)),
+    ];
+    assert_answers(&rt, &mut DirHost::new(&watched, "nova_dir_kept"), &calls);
+    clear(&rt, "nova_dir_kept");
     Ok(())
-}
-
-fn assert_kept_out<R: Files<File = File> + Print + AllocGlobal>(
-    rt: &impl Abort,
-    host: &mut DirHost<'_, R>,
-) {
-    assert!(rt; host.next_file(None).is_err(), "listed beside another");
-    assert!(rt; host.size(1).is_err(), "looked at beside another");
-    assert!(rt; host.read(1, 0, &mut [0]).is_err(), "read beside another");
-    assert!(rt; host.create(2).is_err(), "made beside another");
-    assert!(rt; host.write(1, 0, b"x").is_err(), "written beside another");
-    assert!(rt; host.remove(1).is_err(), "removed beside another");
-    assert!(rt; host.sync(1).is_err(), "synced beside another");
 }
 
 #[test]
-fn one_at_a_time(rt: HostRuntime) -> Result<(), Fail> {
+fn one_at_a_time(rt: HostRuntime) {
+    clear(&rt, "nova_dir_lock");
     let mut late = DirHost::new(&rt, "nova_dir_lock");
-    assert_eq!(rt; late.next_file(None)?, None, "no folder yet");
+    assert_answers(&rt, &mut late, &[(Call::Next(None), Answer::Absent)]);
     let mut first = DirHost::new(&rt, "nova_dir_lock");
-    first.create(1)?;
+    assert_answers(&rt, &mut first, &[(Call::Create(1), Answer::Done)]);
+    let calls = [
+        (Call::Next(None), Answer::Failed),
+        (Call::Size(1), Answer::Failed),
+        (Call::Read(1, 0), Answer::Failed),
+        (Call::Create(2), Answer::Failed),
+        (Call::Write(1, 0, "x"), Answer::Failed),
+        (Call::Remove(1), Answer::Failed),
+        (Call::Sync(1), Answer::Failed),
+    ];
     let mut second = DirHost::new(&rt, "nova_dir_lock");
-    assert_kept_out(&rt, &mut second);
-    assert_kept_out(&rt, &mut late);
-    first.sync(1)?;
+    assert_answers(&rt, &mut second, &calls);
+    assert_answers(&rt, &mut late, &calls);
+    assert_answers(&rt, &mut first, &[(Call::Sync(1), Answer::Done)]);
     drop(first);
-    assert_eq!(rt; second.next_file(None)?, Some(1), "after the first");
+    let calls = [
+        (Call::Next(None), Answer::Number(1)),
+        (Call::Size(1), Answer::Number(0)),
+        (Call::Next(Some(1)), Answer::Absent),
+    ];
+    assert_answers(&rt, &mut second, &calls);
     drop(second);
-    assert!(rt;
-        late.create(1).is_err(),
-        "made over a file that came since there was no folder"
-    );
-    let mut last = DirHost::new(&rt, "nova_dir_lock");
-    assert_eq!(rt; last.next_file(None)?, Some(1), "nothing was changed");
-    fs::remove_dir_all(&rt, "nova_dir_lock")?;
-    Ok(())
+    // its first call found no folder, so this file is another's
+    assert_answers(&rt, &mut late, &[(Call::Create(1), Answer::Failed)]);
+    assert_answers(&rt, &mut DirHost::new(&rt, "nova_dir_lock"), &calls);
+    clear(&rt, "nova_dir_lock");
 }
 
 #[test]
 fn syncs(rt: HostRuntime) -> Result<(), Fail> {
+    clear(&rt, "nova_dir_syncs");
     let refused = Watched::new(rt.clone()?, "nova_dir_syncs/..")?;
-    let mut orphan = Folder::new(&refused, "nova_dir_syncs");
-    assert!(rt; orphan.sync(1).is_err(), "synced with no parent");
-    drop(orphan);
+    let calls = [(Call::Sync(1), Answer::Failed)];
+    assert_answers(&rt, &mut DirHost::new(&refused, "nova_dir_syncs"), &calls);
     let watched = Watched::new(rt.clone()?, "")?;
-    let mut folder = Folder::new(&watched, "nova_dir_syncs");
-    folder.sync(1)?;
-    assert_eq!(rt;
-        watched.opened.get(),
-        3,
-        "the lock, the folder and its parent"
-    );
-    folder.create(1)?;
-    folder.write(1, 0, b"abc")?;
-    folder.write(1, 3, b"def")?;
-    assert_eq!(rt; watched.opened.get(), 4, "a file that was made stays open");
-    folder.sync(1)?;
-    assert_eq!(rt; watched.opened.get(), 5, "its name has to last");
-    folder.write(1, 0, b"A")?;
-    folder.sync(1)?;
-    assert_eq!(rt;
-        watched.opened.get(),
-        6,
-        "a write alone opens the file alone"
-    );
-    folder.create(1)?;
-    folder.sync(1)?;
-    assert_eq!(rt; watched.opened.get(), 7, "no name was made");
-    folder.sync(1)?;
-    assert_eq!(rt;
-        watched.opened.get(),
-        8,
-        "a file of an earlier call is opened to be synced"
-    );
-    folder.remove(1)?;
-    folder.sync(1)?;
-    assert_eq!(rt; watched.opened.get(), 9, "its absence has to last");
-    fs::remove_dir_all(&rt, "nova_dir_syncs")?;
+    let mut host = DirHost::new(&watched, "nova_dir_syncs");
+    // how many files and folders have been opened after each call
+    let counts = [
+        (Call::Sync(1), 3, "the lock, the folder and its parent"),
+        (Call::Create(1), 4, "the file"),
+        (Call::Write(1, 0, "abc"), 4, "it stays open"),
+        (Call::Write(1, 3, "def"), 4, "it stays open"),
+        (Call::Sync(1), 5, "its name has to last"),
+        (Call::Write(1, 0, "A"), 6, "the file"),
+        (Call::Sync(1), 6, "no name was made"),
+        (Call::Create(1), 7, "the file"),
+        (Call::Sync(1), 7, "no name was made"),
+        (Call::Sync(1), 8, "a file that wasn't written is opened"),
+        (Call::Remove(1), 8, "nothing is opened"),
+        (Call::Sync(1), 9, "its absence has to last"),
+    ];
+    for (call, count, why) in counts {
+        assert_answers(&rt, &mut host, &[(call, Answer::Done)]);
+        assert_eq!(rt; watched.opened.get(), count, "{call:?}: {why}");
+    }
+    clear(&rt, "nova_dir_syncs");
     Ok(())
 }

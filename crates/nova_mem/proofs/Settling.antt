@@ -1,8 +1,8 @@
 -- A file that is changed from outside: the deeds on it are forgotten, so it is settled as it is, and of every other file the history tells what it told.
-use Rattle.std.proofs.Common.{◌≡◌, ◌≢◌, ◌⊎◌, inl, inr, ℕ, zero, suc, ◌-◌, ◌≤◌, List, [], ◌∷◌, ◌++◌, length, take, drop, reverse, reverse-cons, filter, cond, nat_eq, not, if◌then◌else◌, Option, Some, None, option_map, vec_items, Bool, true, false, refl, sym, ◌∙◌, ap, subst, arith}
+use Rattle.std.proofs.Common.{◌≡◌, ◌≢◌, ◌⊎◌, inl, inr, ℕ, zero, suc, ◌-◌, ◌≤◌, List, [], ◌∷◌, ◌++◌, length, take, drop, reverse, filter, cond, nat_eq, not, if◌then◌else◌, Option, Some, None, option_map, vec_items, Bool, true, false, true≢false, refl, sym, ◌∙◌, ap, subst, arith}
 use Rattle.std.proofs.lemmas.Bool.{cases_eq}
 use Rattle.std.proofs.lemmas.Bool.Decides.{nat_tests}
-use Rattle.std.proofs.lemmas.List.{append-nil}
+use Rattle.std.proofs.lemmas.List.{append-nil, reverse-append}
 use Rattle.std.proofs.lemmas.List.Elements.{filter-append}
 use Rattle.nova_outside.specs.Disk.{Files, Only, SameBut, LeavesSameBut, overlaid}
 use Rattle.nova_outside.specs.History.{Event, Change, IfTrue, Outcome, OutcomeOf, current, replies}
@@ -57,7 +57,7 @@ like_one change f g now h k is l = record {
 }
   where
     off : (n : ℕ) → n ≢ f → nat_eq g n ≡ false
-    off n ne = grind (arith, nat_tests)
+    off n ne = apart g n (λ e. ne (e ∙ is))
 
 -- files that are settled
 
@@ -82,11 +82,17 @@ like_settled f (suc n) old new a = like_file f (suc n) (old (suc n)) (new (suc n
 
 -- deeds
 
+at_itself : (f g : ℕ) → g ≡ f → nat_eq g f ≡ true
+at_itself f g is = grind (arith, nat_tests)
+
 is_on : (f g : ℕ) → not (nat_eq g f) ≡ false → g ≡ f
-is_on f g e = grind (arith, nat_tests)
+is_on f g e = elim (cases_eq g f) [
+  | inl is ↦ is
+  | inr ne ↦ absurd (true≢false (sym (ap not (apart g f (λ p. ne (sym p)))) ∙ e))
+]
 
 is_off : (f g : ℕ) → not (nat_eq g f) ≡ true → g ≢ f
-is_off f g e = grind (arith, nat_tests)
+is_off f g e = λ is. true≢false (sym e ∙ ap not (at_itself f g is))
 
 put_same : (g n : ℕ) (F : Option (List ℕ) → Option (List ℕ)) (old new : Files) → new n ≡ old n → with_file g (F (new g)) new n ≡ with_file g (F (old g)) old n
 put_same g n F old new is = elim (cases_eq g n) [
@@ -103,7 +109,7 @@ before_same (Removed g before) f old new a = λ n ne. ap (λ (o : Option (List �
 before_same (Replied count) f old new a = a
 
 put_other : (g f n : ℕ) (o : Option (List ℕ)) (files : Files) → g ≡ f → n ≢ f → with_file g o files n ≡ files n
-put_other g f n o files is ne = grind (arith, nat_tests)
+put_other g f n o files is ne = ap (λ (b : Bool). if b then o else files n) (apart g n (λ e. ne (e ∙ is)))
 
 before_other : (d : Deed) (f : ℕ) → is_apart f d ≡ false → (files : Files) → SameBut f (files_before d files) files
 before_other (Created g before) f e files = λ n ne. sym (put_other g f n (option_map vec_items before) files (is_on f g e) ne)
@@ -113,7 +119,7 @@ before_other (Removed g before) f e files = λ n ne. sym (put_other g f n (optio
 before_other (Replied count) f e files = λ n ne. refl
 
 put_here : (g f : ℕ) (o : Option (List ℕ)) (files : Files) → g ≢ f → with_file g o files f ≡ files f
-put_here g f o files ne = grind (arith, nat_tests)
+put_here g f o files ne = ap (λ (b : Bool). if b then o else files f) (apart g f (λ e. ne (sym e)))
 
 before_here : (d : Deed) (f : ℕ) → is_apart f d ≡ true → (files : Files) → files_before d files f ≡ files f
 before_here (Created g before) f e files = put_here g f (option_map vec_items before) files (is_off f g e)
@@ -139,19 +145,19 @@ like_gone (Written g at count over long) f e files said h k l =
     let bytes = take count (drop at (bytes_in (files g))) in like_one (IsWritten at (length bytes)) f g (option_map (overlaid at bytes) (current h g)) h k (is_on f g e) l
 like_gone (Synced g) f e files said h k l = like_one IsSynced f g (current h g) h k (is_on f g e) l
 like_gone (Removed g before) f e files said h k l = like_one IsRemoved f g None h k (is_on f g e) l
-like_gone (Replied count) f e files said h k l = absurd (cc e)
+like_gone (Replied count) f e files said h k l = absurd (true≢false e)
 
 said_same : (d : Deed) (f : ℕ) → is_apart f d ≡ false → (said : List ℕ) → replies_before d said ≡ said
 said_same (Created g before) f e said = refl
 said_same (Written g at count over long) f e said = refl
 said_same (Synced g) f e said = refl
 said_same (Removed g before) f e said = refl
-said_same (Replied count) f e said = absurd (cc e)
+said_same (Replied count) f e said = absurd (true≢false e)
 
-abbrev Told : ℕ → ℕ → List Deed → Type 0
-Told f base ds = (old new : Files) (said : List ℕ) → SameBut f old new → Like f (told ds base old said) (told (filter (is_apart f) ds) base new said)
+abbrev EachLike : ℕ → ℕ → List Deed → Type 0
+EachLike f base ds = (old new : Files) (said : List ℕ) → SameBut f old new → Like f (told ds base old said) (told (filter (is_apart f) ds) base new said)
 
-told_step : (f base : ℕ) (d : Deed) (ds : List Deed) → Told f base ds → Told f base (d ∷ ds)
+told_step : (f base : ℕ) (d : Deed) (ds : List Deed) → EachLike f base ds → EachLike f base (d ∷ ds)
 told_step f base d ds ih old new said a = pick (is_apart f d) refl
   where
     pick : (b : Bool) → is_apart f d ≡ b → Like f (told (d ∷ ds) base old said) (told (cond b (d ∷ filter (is_apart f) ds) (filter (is_apart f) ds)) base new said)
@@ -165,7 +171,7 @@ told_step f base d ds ih old new said a = pick (is_apart f d) refl
         let l = ih (files_before d old) new (replies_before d said) (λ n ne. a n ne ∙ before_other d f e old n ne) in
         like_gone d f e old said h (told (filter (is_apart f) ds) base new said) (subst (λ (t : List ℕ). Like f h (told (filter (is_apart f) ds) base new t)) (said_same d f e said) l)
 
-like_told : (f base : ℕ) (ds : List Deed) → Told f base ds
+like_told : (f base : ℕ) (ds : List Deed) → EachLike f base ds
 like_told f base [] = λ old new said a. like_both (AddsReply said) f (settled base old) (settled base new) (like_settled f base old new a)
 like_told f base (d ∷ ds) = told_step f base d ds (like_told f base ds)
 
@@ -207,10 +213,10 @@ alone_told f base le (d ∷ ds) = alone_step f base d ds (alone_told f base le d
 
 filter-reverse : (p : Deed → Bool) (ds : List Deed) → reverse (filter p ds) ≡ filter p (reverse ds)
 filter-reverse p [] = refl
-filter-reverse p (d ∷ ds) = step (p d) ∙ sym (ap (filter p) (reverse-cons d ds) ∙ filter-append p (reverse ds) (d ∷ []))
+filter-reverse p (d ∷ ds) = step (p d) ∙ sym (ap (filter p) (reverse-append (d ∷ []) ds) ∙ filter-append p (reverse ds) (d ∷ []))
   where
     step : (b : Bool) → reverse (cond b (d ∷ filter p ds) (filter p ds)) ≡ filter p (reverse ds) ++ cond b (d ∷ []) []
-    step true = reverse-cons d (filter p ds) ∙ ap (λ (l : List Deed). l ++ d ∷ []) (filter-reverse p ds)
+    step true = reverse-append (d ∷ []) (filter p ds) ∙ ap (λ (l : List Deed). l ++ d ∷ []) (filter-reverse p ds)
     step false = filter-reverse p ds ∙ sym (append-nil (filter p (reverse ds)))
 
 without : (f : ℕ) (ds es : List Deed) → es ≡ filter (is_apart f) ds → reverse es ≡ filter (is_apart f) (reverse ds)

@@ -211,13 +211,14 @@ alone_told f base le (d ∷ ds) = alone_step f base d ds (alone_told f base le d
 
 -- the same of the newest first
 
+reverse_cond : (d : Deed) (es fs : List Deed) → reverse es ≡ fs → (b : Bool) → reverse (cond b (d ∷ es) es) ≡ fs ++ cond b (d ∷ []) []
+reverse_cond d es fs is true = reverse-append (d ∷ []) es ∙ ap (λ (l : List Deed). l ++ d ∷ []) is
+reverse_cond d es fs is false = is ∙ sym (append-nil fs)
+
 filter-reverse : (p : Deed → Bool) (ds : List Deed) → reverse (filter p ds) ≡ filter p (reverse ds)
 filter-reverse p [] = refl
-filter-reverse p (d ∷ ds) = step (p d) ∙ sym (ap (filter p) (reverse-append (d ∷ []) ds) ∙ filter-append p (reverse ds) (d ∷ []))
-  where
-    step : (b : Bool) → reverse (cond b (d ∷ filter p ds) (filter p ds)) ≡ filter p (reverse ds) ++ cond b (d ∷ []) []
-    step true = reverse-append (d ∷ []) (filter p ds) ∙ ap (λ (l : List Deed). l ++ d ∷ []) (filter-reverse p ds)
-    step false = filter-reverse p ds ∙ sym (append-nil (filter p (reverse ds)))
+filter-reverse p (d ∷ ds) =
+    reverse_cond d (filter p ds) (filter p (reverse ds)) (filter-reverse p ds) (p d) ∙ sym (ap (filter p) (reverse-append (d ∷ []) ds) ∙ filter-append p (reverse ds) (d ∷ []))
 
 without : (f : ℕ) (ds es : List Deed) → es ≡ filter (is_apart f) ds → reverse es ≡ filter (is_apart f) (reverse ds)
 without f ds es is = ap (λ (l : List Deed). reverse l) is ∙ filter-reverse (is_apart f) ds

@@ -7,10 +7,10 @@ use Rattle.nova_mem.specs.Deeds.{view, told}
 use Rattle.nova_mem.proofs.Told.{told_more, kept_after}
 use Rattle.nova_mem.proofs.parts.Disk.write.Goals as goal
 
-pub invariant_of-self-clause-kept : goal.invariant_of-self-clause-kept
-invariant_of-self-clause-kept c =
+pub invariant_of-self : goal.invariant_of-self
+invariant_of-self c =
     let disk = c.args.self.now in
-    kept_after (Written c.args.at (length c.args.bytes.now)) c.args.file (option_map (overlaid c.args.at c.args.bytes.now) (view disk.files c.args.file)) disk.deeds.items c.write_file.new.deeds.items (2 ^ 64 - 1) (view disk.files) (view c.write_file.new.files) disk.replies.items c.write_file.result c.write_file.ensures.ok c.write_file.ensures.err disk.kept
+    record { kept = kept_after (Written c.args.at (length c.args.bytes.now)) c.args.file (option_map (overlaid c.args.at c.args.bytes.now) (view disk.files c.args.file)) disk.deeds.items c.write_file.new.deeds.items (2 ^ 64 - 1) (view disk.files) (view c.write_file.new.files) disk.replies.items c.write_file.result c.write_file.ensures.ok c.write_file.ensures.err disk.kept }
 
 pub returns-clause-ok : goal.returns-clause-ok
 returns-clause-ok c =

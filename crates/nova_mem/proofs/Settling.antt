@@ -1,5 +1,5 @@
 -- A file that is changed from outside: the deeds on it are forgotten, so it is settled as it is, and of every other file the history tells what it told.
-use Rattle.std.proofs.Common.{◌≡◌, ◌≢◌, ◌⊎◌, inl, inr, ℕ, zero, suc, ◌-◌, ◌≤◌, List, [], ◌∷◌, ◌++◌, length, take, drop, reverse, filter, cond, nat_eq, not, if◌then◌else◌, Option, Some, None, option_map, vec_items, Bool, true, false, true≢false, refl, sym, ◌∙◌, ap, subst, arith}
+use Rattle.std.proofs.Common.{◌≡◌, ◌≢◌, inl, inr, ℕ, zero, suc, ◌≤◌, List, [], ◌∷◌, ◌++◌, length, take, drop, reverse, filter, cond, nat_eq, not, if◌then◌else◌, Option, Some, None, option_map, vec_items, Bool, true, false, true≢false, refl, sym, ◌∙◌, ap, subst, arith}
 use Rattle.std.proofs.lemmas.Bool.{cases_eq}
 use Rattle.std.proofs.lemmas.Bool.Decides.{nat_tests}
 use Rattle.std.proofs.lemmas.List.{append-nil, reverse-append}

@@ -1,5 +1,5 @@
 -- The history of a disk in memory: what it tells of files and replies, that it is valid, and how it grows.
-use Rattle.std.proofs.Common.{◌≡◌, ◌≢◌, inl, inr, ℕ, zero, suc, ◌-◌, ◌<◌, ◌≤◌, List, [], ◌∷◌, ◌++◌, length, take, drop, reverse, nat_eq, if◌then◌else◌, Option, Some, None, IsSome, Result, Ok, Err, OnOk, OnErr, option_map, Bool, false, refl, sym, ◌∙◌, ap, subst, arith, length-append, take-append-drop}
+use Rattle.std.proofs.Common.{◌≡◌, ◌≢◌, inl, inr, ℕ, zero, suc, ◌-◌, ◌<◌, ◌≤◌, List, [], ◌∷◌, ◌++◌, length, take, drop, reverse, nat_eq, if◌then◌else◌, Option, Some, None, Result, Ok, Err, OnOk, OnErr, Bool, false, refl, sym, ◌∙◌, ap, subst, arith, length-append, take-append-drop}
 use Rattle.std.proofs.lemmas.Bool.{cases_eq, cases_lt}
 use Rattle.std.proofs.lemmas.Bool.Decides.{nat_tests}
 use Rattle.std.proofs.lemmas.List.{reverse-append, take_at, drop_at}
@@ -8,7 +8,7 @@ use Rattle.nova_outside.specs.History.{Event, Change, IfTrue, Outcome, current, 
 use Rattle.nova_outside.specs.History.Event.{OnFile, Replied as AddsReply}
 use Rattle.nova_outside.specs.History.Change.{Created as IsCreated, Synced as IsSynced}
 use Rattle.nova_outside.proofs.Outcomes.{there}
-use Rattle.nova_mem.specs.Deeds.{with_file, files_before, event_of, settled, settled_file, told}
+use Rattle.nova_mem.specs.Deeds.{files_before, event_of, settled, settled_file, told}
 use Rattle.nova_mem.specs.Does.{Does}
 use Rattle.nova_mem.specs.declared.parts.Deed.{Deed}
 use Rattle.nova_mem.specs.declared.parts.Deed.TheVariants.{Created, Written, Synced, Removed, Replied}

@@ -1,5 +1,5 @@
 -- The history of a disk in memory: what it tells of files and replies, that it is valid, and how it grows.
-use Rattle.std.proofs.Common.{◌≡◌, ◌≢◌, inl, inr, ℕ, zero, suc, ◌-◌, ◌<◌, ◌≤◌, List, [], ◌∷◌, ◌++◌, length, take, drop, reverse, nat_eq, if◌then◌else◌, Option, Some, None, IsSome, Result, Ok, Err, OnOk, OnErr, option_map, Bool, false, refl, sym, ◌∙◌, ap, subst, arith, length-append, take-append-drop}
+use Rattle.std.proofs.Common.{◌≡◌, ◌≢◌, inl, inr, ℕ, zero, suc, ◌-◌, ◌<◌, ◌≤◌, List, [], ◌∷◌, ◌++◌, length, take, drop, reverse, nat_eq, if◌then◌else◌, Option, Some, None, Result, Ok, Err, OnOk, OnErr, Bool, false, refl, sym, ◌∙◌, ap, subst, arith, length-append, take-append-drop}
 use Rattle.std.proofs.lemmas.Bool.{cases_eq, cases_lt}
 use Rattle.std.proofs.lemmas.Bool.Decides.{nat_tests}
 use Rattle.std.proofs.lemmas.List.{reverse-append, take_at, drop_at}
@@ -8,7 +8,7 @@ use Rattle.nova_outside.specs.History.{Event, Change, IfTrue, Outcome, current, 
 use Rattle.nova_outside.specs.History.Event.{OnFile, Replied as AddsReply}
 use Rattle.nova_outside.specs.History.Change.{Created as IsCreated, Synced as IsSynced}
 use Rattle.nova_outside.proofs.Outcomes.{there}
-use Rattle.nova_mem.specs.Deeds.{with_file, files_before, event_of, settled, settled_file, told}
+use Rattle.nova_mem.specs.Deeds.{files_before, event_of, settled, settled_file, told}
 use Rattle.nova_mem.specs.Does.{Does}
 use Rattle.nova_mem.specs.declared.parts.Deed.{Deed}
 use Rattle.nova_mem.specs.declared.parts.Deed.TheVariants.{Created, Written, Synced, Removed, Replied}
@@ -57,7 +57,7 @@ replied_more ds es base files said new bytes is added =
 
 -- files that are settled
 
-apart : (n m : ℕ) → m ≢ n → nat_eq n m ≡ false
+pub apart : (n m : ℕ) → m ≢ n → nat_eq n m ≡ false
 apart n m ne = grind (arith, nat_tests)
 
 file_is : (n : ℕ) (o : Option (List ℕ)) (h : List Event) → current h n ≡ None → current (settled_file n o h) n ≡ o
@@ -77,9 +77,9 @@ only_other n m None file h ne only = only
 only_other n m (Some bytes) file h ne only = λ c left. only c (subst (λ (b : Bool). IfTrue b (c ≡ Some bytes) (IfTrue b (Unit {0}) (Outcome h m c))) (apart n m ne) left)
 
 -- what is read of files that are settled, and what a crash leaves of them
-record Stands (n : ℕ) (file : Option (List ℕ)) (h : List Event) : Type 0 where
-  is : current h n ≡ file
-  only : Only file (Outcome h n)
+pub record Stands (n : ℕ) (file : Option (List ℕ)) (h : List Event) : Type 0 where
+  pub is : current h n ≡ file
+  pub only : Only file (Outcome h n)
 
 none_yet : (n : ℕ) → Stands n None []
 none_yet n = record { is = refl; only = λ c left. left }
@@ -95,7 +95,7 @@ unfolding settled
 high zero files n lt = stands_other 0 n (files 0) None [] (omega (arith, lt)) (none_yet n)
 high (suc k) files n lt = stands_other (suc k) n (files (suc k)) None (settled k files) (omega (arith, lt)) (high k files n (omega (arith, lt)))
 
-low : (base : ℕ) (files : Files) (n : ℕ) → n ≤ base → Stands n (files n) (settled base files)
+pub low : (base : ℕ) (files : Files) (n : ℕ) → n ≤ base → Stands n (files n) (settled base files)
 unfolding settled
 low zero files n le = let e : 0 ≡ n = omega (arith, le) in subst (λ (m : ℕ). Stands m (files m) (settled_file 0 (files 0) [])) e (stands_is 0 (files 0) [] (none_yet 0))
 low (suc k) files n le = elim (cases_eq (suc k) n) [
@@ -103,58 +103,21 @@ low (suc k) files n le = elim (cases_eq (suc k) n) [
   | inr ne ↦ stands_other (suc k) n (files (suc k)) (files n) (settled k files) (omega (arith, ne)) (low k files n (omega (arith, le, ne)))
 ]
 
-absent : (base n : ℕ) (file : Option (List ℕ)) → (IsSome file → n ≤ base) → base < n → None ≡ file
-absent base n None up lt = refl
-absent base n (Some bytes) up lt = absurd (omega (arith, up refl, lt))
-
-stands_all : (base : ℕ) (files : Files) → ((n : ℕ) → IsSome (files n) → n ≤ base) → (n : ℕ) → Stands n (files n) (settled base files)
-stands_all base files up n = elim (cases_lt base n) [
-  | inl lt ↦ subst (λ (o : Option (List ℕ)). Stands n o (settled base files)) (absent base n (files n) (up n) lt) (high base files n lt)
-  | inr le ↦ low base files n le
+stands_none : (base : ℕ) (files : Files) → ((n : ℕ) → files n ≡ None) → (n : ℕ) → Stands n None (settled base files)
+stands_none base files none n = elim (cases_lt base n) [
+  | inl lt ↦ high base files n lt
+  | inr le ↦ subst (λ (o : Option (List ℕ)). Stands n o (settled base files)) (none n) (low base files n le)
 ]
 
--- where nothing was done since all files were settled
-pub kept_settled : (ds : List Deed) (base : ℕ) (files : Files) (said : List ℕ) → ds ≡ [] → ((n : ℕ) → IsSome (files n) → n ≤ base) → (n : ℕ) → current (told (reverse ds) base files said) n ≡ files n
-kept_settled ds base files said is up n = ap (λ (l : List Deed). current (told (reverse l) base files said) n) is ∙ (stands_all base files up n).is
+-- where no file was ever there
+pub kept_nothing : (ds : List Deed) (base : ℕ) (files : Files) (said : List ℕ) → ds ≡ [] → ((n : ℕ) → files n ≡ None) → (n : ℕ) → current (told (reverse ds) base files said) n ≡ files n
+kept_nothing ds base files said is none n = ap (λ (l : List Deed). current (told (reverse l) base files said) n) is ∙ (stands_none base files none n).is ∙ sym (none n)
 
-pub only_settled : (ds : List Deed) (base : ℕ) (files : Files) (said : List ℕ) → ds ≡ [] → ((n : ℕ) → IsSome (files n) → n ≤ base) → (n : ℕ) → Only (files n) (Outcome (told (reverse ds) base files said) n)
-only_settled ds base files said is up n = subst (λ (l : List Deed). Only (files n) (Outcome (told (reverse l) base files said) n)) (sym is) (stands_all base files up n).only
-
--- no file above the greatest number
-
-pub some_of_map : (f : List ℕ → List ℕ) (o : Option (List ℕ)) → IsSome (option_map f o) → IsSome o
-some_of_map f None is = is
-some_of_map f (Some bytes) is = refl
-
-pub numbered_more : (file n old_greatest greatest : ℕ) (now : Option (List ℕ)) (old new : Files) → (IsSome (old n) → n ≤ old_greatest) → new n ≡ with_file file now old n → old_greatest ≤ greatest → (IsSome now → file ≤ greatest)
-    → IsSome (new n) → n ≤ greatest
-numbered_more file n old_greatest greatest now old new up is more here_up some = elim (cases_eq file n) [
-  | inl e ↦ let h : IsSome now = subst (λ (o : Option (List ℕ)). IsSome o) (is ∙ there_is e) some in omega (arith, here_up h, e)
-  | inr ne ↦ let h : IsSome (old n) = subst (λ (o : Option (List ℕ)). IsSome o) (is ∙ other_is ne) some in omega (arith, up h, more)
-]
-  where
-    there_is : file ≡ n → with_file file now old n ≡ now
-    there_is e = grind (arith, nat_tests)
-
-    other_is : file ≢ n → with_file file now old n ≡ old n
-    other_is ne = grind (arith, nat_tests)
+pub only_nothing : (ds : List Deed) (base : ℕ) (files : Files) (said : List ℕ) → ds ≡ [] → ((n : ℕ) → files n ≡ None) → (n : ℕ) → Only None (Outcome (told (reverse ds) base files said) n)
+only_nothing ds base files said is none n = subst (λ (l : List Deed). Only None (Outcome (told (reverse l) base files said) n)) (sym is) (stands_none base files none n).only
 
 -- the same after a call, whatever it answers
 pub kept_after : {T E : Type 0} (change : Change) (file : ℕ) (now : Option (List ℕ)) (ds es : List Deed) (base : ℕ) (old new : Files) (said : List ℕ) (r : Result T E) → OnOk r (Does change file now ds es old new) → OnErr r ((es ≡ ds) × ((n : ℕ) → new n ≡ old n))
     → ((n : ℕ) → current (told (reverse ds) base old said) n ≡ old n) → (n : ℕ) → current (told (reverse es) base new said) n ≡ new n
 kept_after change file now ds es base old new said (Ok x) ok err kept n = kept_more change file now ds es base old new said ok kept n
 kept_after change file now ds es base old new said (Err e) ok err kept n = ap (λ (h : List Event). current h n) (unchanged ds es base old new said err.0 err.1) ∙ kept n ∙ sym (err.1 n)
-
-pub numbered_after : {T E : Type 0} (change : Change) (file : ℕ) (now : Option (List ℕ)) (ds es : List Deed) (old new : Files) (r : Result T E) → OnOk r (Does change file now ds es old new) → OnErr r ((es ≡ ds) × ((n : ℕ) → new n ≡ old n))
-    → (greatest : ℕ) → ((n : ℕ) → IsSome (old n) → n ≤ greatest) → (IsSome now → file ≤ greatest) → (n : ℕ) → IsSome (new n) → n ≤ greatest
-numbered_after change file now ds es old new (Ok x) ok err greatest up here_up n some = numbered_more file n greatest greatest now old new (up n) (ok.files n) (omega arith) here_up some
-numbered_after change file now ds es old new (Err e) ok err greatest up here_up n some = up n (subst (λ (o : Option (List ℕ)). IsSome o) (err.1 n) some)
-
-pub numbered_changed : (file greatest : ℕ) (f : List ℕ → List ℕ) (old new : Files) → ((n : ℕ) → new n ≡ with_file file (option_map f (old file)) old n) → ((n : ℕ) → IsSome (old n) → n ≤ greatest) → (n : ℕ) → IsSome (new n) → n ≤ greatest
-numbered_changed file greatest f old new is up n some = numbered_more file n greatest greatest (option_map f (old file)) old new (up n) (is n) (omega arith) (λ s. up file (some_of_map f (old file) s)) some
-
-pub none_numbered : (files : Files) (greatest : ℕ) → ((n : ℕ) → files n ≡ None) → (n : ℕ) → IsSome (files n) → n ≤ greatest
-none_numbered files greatest none n some = absurd (no_some (subst (λ (o : Option (List ℕ)). IsSome o) (none n) some))
-  where
-    no_some : IsSome {T = List ℕ} None → ⊥
-    no_some h = cc h

@@ -1,5 +1,5 @@
 -- What a disk in memory keeps of its calls, and the history that it tells. All is told from the newest deed back.
-use Rattle.std.specs.Prelude.{ℕ, zero, suc, ◌-◌, List, [], ◌∷◌, length, take, drop, nat_eq, if◌then◌else◌, Option, Some, None, option_map, Vec, vec_items}
+use Rattle.std.specs.Prelude.{ℕ, zero, suc, ◌-◌, List, [], ◌∷◌, length, take, drop, nat_eq, Bool, true, not, if◌then◌else◌, Option, Some, None, option_map, Vec, vec_items}
 use Rattle.std.specs.BTreeMap.{BTreeMap, get}
 use Rattle.std.specs.declared.alloc.Global.{Global}
 use Rattle.std.specs.Ordering.{nat_cmp}
@@ -17,6 +17,14 @@ view files n = option_map vec_items (get nat_cmp files n)
 -- the files with this one in the place of that of its number
 abbrev pub with_file : ℕ → Option (List ℕ) → Files → Files
 with_file number file files n = if nat_eq number n then file else files n
+
+-- the deed is on no file, or on another than this one
+abbrev pub is_apart : ℕ → Deed → Bool
+is_apart file (Created other before) = not (nat_eq other file)
+is_apart file (Written other at count over length) = not (nat_eq other file)
+is_apart file (Synced other) = not (nat_eq other file)
+is_apart file (Removed other before) = not (nat_eq other file)
+is_apart file (Replied count) = true
 
 -- the files before a deed, by those after it
 abbrev pub files_before : Deed → Files → Files

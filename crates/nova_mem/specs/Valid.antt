@@ -1,5 +1,5 @@
 -- Each history that a disk in memory tells is valid.
-use Rattle.std.specs.Prelude.{◌≡◌, ℕ, zero, suc, ◌+◌, ◌-◌, min, List, [], ◌∷◌, ◌++◌, length, take, drop, reverse, nat_eq, if◌then◌else◌, Option, Some, None, option_map, refl}
+use Rattle.std.specs.Prelude.{◌≡◌, ℕ, zero, suc, ◌+◌, ◌-◌, ◌^◌, min, List, [], ◌∷◌, ◌++◌, length, take, drop, reverse, nat_eq, if◌then◌else◌, Option, Some, None, option_map, refl}
 use Rattle.std.proofs.Common.{inr, get_or, sym, ap, ◌∙◌, arith, length-append, length-take, length-drop}
 use Rattle.std.proofs.lemmas.Bool.Decides.{nat_tests}
 use Rattle.std.proofs.lemmas.List.{get_or_append_left, get_or-append_right, get_or-take, get_or-drop}
@@ -51,4 +51,4 @@ valid_told (Removed file before ∷ ds) base files said = (inr refl, valid_told 
 valid_told (Replied count ∷ ds) base files said = valid_told ds base files (take (length said - count) said)
 
 pub valid_disk : (disk : Disk) → Valid (history_of disk)
-valid_disk disk = valid_told (reverse disk.deeds.items) disk.base (view disk.files) disk.replies.items
+valid_disk disk = valid_told (reverse disk.deeds.items) (2 ^ 64 - 1) (view disk.files) disk.replies.items

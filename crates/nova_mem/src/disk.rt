@@ -1,13 +1,13 @@
 // Calls on a disk in memory, and changes of its files from outside.
 ghost use Rattle.std.specs.Prelude.{◌≡◌, ◌<◌, ◌≤◌, ◌∷◌, [], ℕ, length, slice_set, take, OnOk, OnErr, Some, None, IsSome, option_map};
-ghost use Rattle.nova_outside.specs.Disk.{Only, Reaches, SameBut, overlaid};
+ghost use Rattle.nova_outside.specs.Disk.{LeavesSameBut, Only, Reaches, SameBut, overlaid};
 ghost use Rattle.nova_outside.specs.History.{Outcome, current, replies};
 ghost use Rattle.nova_outside.specs.History.Change.{Created, Removed, Synced, Written};
 ghost use Rattle.nova_outside.specs.History.Event.{OnFile, Replied};
 ghost use Rattle.nova_mem.specs.Deeds.{bytes_in};
 ghost use Rattle.nova_mem.specs.Disks.{history_of};
 
-use crate::files::{create_file, cut_file, edit_file, remove_file, sync_file, write_file};
+use crate::files::{create_file, cut_file, edit_file, forget, remove_file, sync_file, write_file};
 use crate::parts::{Deed, Disk};
 use std::alloc::{AllocError, Global};
 use std::collections::BTreeMap;
@@ -24,8 +24,6 @@ impl Disk {
             files: BTreeMap::new(alloc),
             replies: Vec::new(alloc),
             deeds: Vec::new(alloc),
-            greatest: 0,
-            base: 0,
         }
     }
 
@@ -34,9 +32,7 @@ impl Disk {
         ensures ok { OnOk result (history_of self.new ≡ OnFile Created file (Some []) ∷ history_of self.old) }
         ensures err { OnErr result (history_of self.new ≡ history_of self.old) }
     {
-        create_file(self.alloc, &mut self.files, &mut self.deeds, file)?;
-        self.greatest = self.greatest.max(file);
-        Ok(())
+        create_file(self.alloc, &mut self.files, &mut self.deeds, file)
     }
 
     /// Writes bytes into a file that is there and reaches as far as the offset.
@@ -86,29 +82,29 @@ impl Disk {
         Ok(())
     }
 
-    /// Puts a byte of a file in the place of another, and settles all files.
+    /// Puts a byte of a file in the place of another, and settles the file. What is pending of the others stays.
     pub fn edit(&mut self, file: u64, at: usize, byte: u8)
         requires { at < length (bytes_in (current (history_of self.old) file)) }
         ensures edited { current (history_of self.new) file ≡ option_map (λ bytes. slice_set bytes at byte) (current (history_of self.old) file) }
         ensures others { SameBut file (current (history_of self.old)) (current (history_of self.new)) }
-        ensures settled { (n : ℕ) → Only (current (history_of self.new) n) (Outcome (history_of self.new) n) }
+        ensures settled { Only (current (history_of self.new) file) (Outcome (history_of self.new) file) }
+        ensures pending { LeavesSameBut file (Outcome (history_of self.old)) (Outcome (history_of self.new)) }
         ensures replies { replies (history_of self.new) ≡ replies (history_of self.old) }
     {
         edit_file(&mut self.files, file, at, byte);
-        self.deeds.clear();
-        self.base = self.greatest;
+        forget(&mut self.deeds, file);
     }
 
-    /// Cuts a file to a length, and settles all files.
+    /// Cuts a file to a length, and settles the file. What is pending of the others stays.
     pub fn cut(&mut self, file: u64, count: usize)
         requires { Reaches count (current (history_of self.old) file) }
         ensures shortened { current (history_of self.new) file ≡ option_map (take count) (current (history_of self.old) file) }
         ensures others { SameBut file (current (history_of self.old)) (current (history_of self.new)) }
-        ensures settled { (n : ℕ) → Only (current (history_of self.new) n) (Outcome (history_of self.new) n) }
+        ensures settled { Only (current (history_of self.new) file) (Outcome (history_of self.new) file) }
+        ensures pending { LeavesSameBut file (Outcome (history_of self.old)) (Outcome (history_of self.new)) }
         ensures replies { replies (history_of self.new) ≡ replies (history_of self.old) }
     {
         cut_file(&mut self.files, file, count);
-        self.deeds.clear();
-        self.base = self.greatest;
+        forget(&mut self.deeds, file);
     }
 }

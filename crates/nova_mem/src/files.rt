@@ -1,8 +1,8 @@
 // Files in memory by number, and calls on them, each of which keeps its deed.
-ghost use Rattle.std.specs.Prelude.{◌≡◌, ◌+◌, ◌-◌, ◌≤◌, ◌<◌, ◌++◌, ◌∷◌, [], ℕ, length, take, drop, reverse, slice_set, vec_len, vec_capacity, IfOk, OnOk, OnErr, IfSome, Some, None, option_map, vec_items};
+ghost use Rattle.std.specs.Prelude.{◌≡◌, ◌+◌, ◌-◌, ◌≤◌, ◌<◌, ◌++◌, ◌∷◌, [], ℕ, length, take, drop, reverse, slice_set, vec_len, vec_capacity, IfOk, OnOk, OnErr, IfSome, Some, None, filter, option_map, vec_items};
 ghost use Rattle.nova_outside.specs.Disk.{overlaid, Reaches, piece, IsNext};
 ghost use Rattle.nova_outside.specs.History.Change.{Created, Written, Synced, Removed};
-ghost use Rattle.nova_mem.specs.Deeds.{bytes_in, view, with_file};
+ghost use Rattle.nova_mem.specs.Deeds.{bytes_in, is_apart, view, with_file};
 ghost use Rattle.nova_mem.specs.Does.{Does};
 
 use crate::parts::Deed;
@@ -171,6 +171,13 @@ pub fn remove_file(
     let before = files.remove(&file);
     keep(deeds, Deed::Removed { file, before });
     Ok(())
+}
+
+// Forgets the deeds on a file.
+pub fn forget(deeds: &mut Vec<Deed>, file: u64)
+    ensures { deeds.new.items ≡ filter (is_apart file) deeds.old.items }
+{
+    deeds.retain(|deed| deed.is_apart(file));
 }
 
 // Puts a byte of a file in the place of another.

@@ -1,7 +1,7 @@
 //! A host in memory.
 ghost use Rattle.std.specs.Prelude.{◌≡◌, ◌↔◌, IsTrue, ◌⊎◌, ◌+◌, ◌-◌, ◌^◌, ◌<◌, ◌≤◌, ◌∷◌, ◌++◌, [], ℕ, true, min, length, slice_set, take, Option, Some, None, option_map, IfOk, IfSome, IsSome, MatchResult, OnOk, OnErr};
 ghost use Rattle.nova_outside.specs.Causes.{HasCause, Rose};
-ghost use Rattle.nova_outside.specs.Disk.{IsAfter, IsNext, Only, Reaches, SameBut, overlaid, piece};
+ghost use Rattle.nova_outside.specs.Disk.{IsAfter, IsNext, LeavesSameBut, Only, Reaches, SameBut, overlaid, piece};
 ghost use Rattle.nova_outside.specs.History.{ChangesInPart, Outcome, RepliesInPart, current, replies};
 ghost use Rattle.nova_outside.specs.History.Change.{Created, Removed, Synced, SyncedInPart, Written};
 ghost use Rattle.nova_outside.specs.History.Event.{OnFile, Replied};
@@ -102,24 +102,26 @@ impl MemHost {
         }
     }
 
-    /// Puts a byte of a file in the place of another, and settles all files.
+    /// Puts a byte of a file in the place of another, and settles the file. What is pending of the others stays.
     pub fn edit(&mut self, file: u64, at: usize, byte: u8)
         requires { at < length (bytes_in (current (history_of self.old.disk) file)) }
         ensures edited { current (history_of self.new.disk) file ≡ option_map (λ bytes. slice_set bytes at byte) (current (history_of self.old.disk) file) }
         ensures others { SameBut file (current (history_of self.old.disk)) (current (history_of self.new.disk)) }
-        ensures settled { (n : ℕ) → Only (current (history_of self.new.disk) n) (Outcome (history_of self.new.disk) n) }
+        ensures settled { Only (current (history_of self.new.disk) file) (Outcome (history_of self.new.disk) file) }
+        ensures pending { LeavesSameBut file (Outcome (history_of self.old.disk)) (Outcome (history_of self.new.disk)) }
         ensures replies { replies (history_of self.new.disk) ≡ replies (history_of self.old.disk) }
         ensures rest { self.new ≡ record self.old { disk = self.new.disk } }
     {
         self.disk.edit(file, at, byte);
     }
 
-    /// Cuts a file to a length, and settles all files.
+    /// Cuts a file to a length, and settles the file. What is pending of the others stays.
     pub fn cut(&mut self, file: u64, length: usize)
         requires { Reaches length (current (history_of self.old.disk) file) }
         ensures shortened { current (history_of self.new.disk) file ≡ option_map (take length) (current (history_of self.old.disk) file) }
         ensures others { SameBut file (current (history_of self.old.disk)) (current (history_of self.new.disk)) }
-        ensures settled { (n : ℕ) → Only (current (history_of self.new.disk) n) (Outcome (history_of self.new.disk) n) }
+        ensures settled { Only (current (history_of self.new.disk) file) (Outcome (history_of self.new.disk) file) }
+        ensures pending { LeavesSameBut file (Outcome (history_of self.old.disk)) (Outcome (history_of self.new.disk)) }
         ensures replies { replies (history_of self.new.disk) ≡ replies (history_of self.old.disk) }
         ensures rest { self.new ≡ record self.old { disk = self.new.disk } }
     {

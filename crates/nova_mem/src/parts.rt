@@ -1,7 +1,7 @@
 // What a disk in memory is made of.
-ghost use Rattle.std.specs.Prelude.{◌≡◌, ◌≤◌, ℕ, IsSome, reverse};
+ghost use Rattle.std.specs.Prelude.{◌≡◌, ◌-◌, ◌^◌, ℕ, reverse};
 ghost use Rattle.nova_outside.specs.History.{current};
-ghost use Rattle.nova_mem.specs.Deeds.{view, told};
+ghost use Rattle.nova_mem.specs.Deeds.{is_apart, view, told};
 
 use std::alloc::Global;
 use std::collections::BTreeMap;
@@ -37,16 +37,27 @@ pub enum Deed {
     },
 }
 
-/// Files, replies, and the deeds since all files up to `base` were settled, the newest last.
+impl Deed {
+    /// Whether it is on no file, or on another than this one.
+    pub fn is_apart(&self, file: u64) -> bool
+        ensures { result ≡ is_apart file self.now }
+    {
+        match self {
+            Deed::Created { file: other, .. } => *other != file,
+            Deed::Written { file: other, .. } => *other != file,
+            Deed::Synced { file: other } => *other != file,
+            Deed::Removed { file: other, .. } => *other != file,
+            Deed::Replied { .. } => true,
+        }
+    }
+}
+
+/// Files, replies, and the deeds since all files were settled, the newest last.
 #[derive(Drop)]
 pub struct Disk {
     pub alloc: Global,
     pub files: BTreeMap<u64, Vec<u8>>,
     pub replies: Vec<u8>,
     pub deeds: Vec<Deed>,
-    /// No file above it is present.
-    pub greatest: u64,
-    pub base: u64,
-    ghost kept: { (n : ℕ) → current (told (reverse deeds.items) base (view files) replies.items) n ≡ view files n },
-    ghost numbered: { (n : ℕ) → IsSome (view files n) → n ≤ greatest },
+    ghost kept: { (n : ℕ) → current (told (reverse deeds.items) (2 ^ 64 - 1) (view files) replies.items) n ≡ view files n },
 }

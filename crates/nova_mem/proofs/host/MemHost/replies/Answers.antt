@@ -1,4 +1,4 @@
-use Rattle.std.proofs.Common.{reverse, sym, ◌∙◌}
+use Rattle.std.proofs.Common.{◌-◌, ◌^◌, reverse, sym, ◌∙◌}
 use Rattle.nova_mem.specs.Deeds.{view}
 use Rattle.nova_mem.proofs.Told.{replies_told}
 use Rattle.nova_mem.proofs.host.MemHost.replies.Goals as goal
@@ -6,4 +6,4 @@ use Rattle.nova_mem.proofs.host.MemHost.replies.Goals as goal
 pub returns : goal.returns
 returns c =
     let disk = c.args.self.now.disk in
-    c.deref.ensures.value ∙ sym (replies_told (reverse disk.deeds.items) disk.base (view disk.files) disk.replies.items)
+    c.deref.ensures.value ∙ sym (replies_told (reverse disk.deeds.items) (2 ^ 64 - 1) (view disk.files) disk.replies.items)

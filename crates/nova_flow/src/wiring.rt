@@ -1,6 +1,6 @@
 //! How the tasks of a workflow hang together.
-ghost use Rattle.std.specs.Prelude.{◌≡◌, ◌≤◌, length, option_map, IfOk, []};
-ghost use Rattle.nova_flow.specs.Answers.{Gives, GivesBy};
+ghost use Rattle.std.specs.Prelude.{◌≡◌, ◌≤◌, length, IfOk};
+ghost use Rattle.nova_flow.specs.Answers.{Gives};
 ghost use Rattle.nova_workflow.specs.Writers as writers;
 ghost use Rattle.nova_flow.specs.Wiring as spec;
 

@@ -1,0 +1,8 @@
+//! The names of channels, tasks and columns, and the keywords of scripts, which name nothing.
+#![tactic(auto)]
+
+mod keywords;
+mod names;
+
+pub use keywords::is_keyword;
+pub use names::{is_identifier, is_name, name_of};

@@ -1,0 +1,10 @@
+pub mod Words
+pub mod Text
+pub mod Replies
+pub mod Refusals
+pub mod Forms
+pub mod Commands
+pub mod Session
+pub mod Laws
+pub mod Buffered
+pub mod Replying

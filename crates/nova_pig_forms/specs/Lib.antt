@@ -1,0 +1,3 @@
+pub mod References
+pub mod Resolves
+pub mod Faults

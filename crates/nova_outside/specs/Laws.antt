@@ -1,7 +1,7 @@
 -- Laws of what a crash and a call that failed leave: what there is besides nothing else, and that each of it may be left.
 use Rattle.std.specs.Prelude.{ℕ, ◌+◌, ◌≤◌, max, List, ◌∷◌, ◌++◌, length, take, drop, Option, Some, None}
 use Rattle.nova_outside.specs.Disk.{Files, IsImage, LeavesSameBut, SameOutcomes, Tears}
-use Rattle.nova_outside.specs.History.{Event, Change, Begins, ChangesInPart, RepliesInPart, Valid, Outcome, LeftNow, Since, current, replies}
+use Rattle.nova_outside.specs.History.{Event, Change, ChangesInPart, Fits, RepliesInPart, Valid, Outcome, LeftNow, Since, current, replies}
 use Rattle.nova_outside.specs.History.Event.{OnFile, Replied}
 use Rattle.nova_outside.specs.History.Change.{Created, Written, SyncedInPart, Removed}
 
@@ -58,7 +58,19 @@ EachChoiceIsLeft = (history : List Event) (image : Files) → ((file : ℕ) → 
 
 -- a crash within a reply may leave any front of it
 abbrev pub EachFrontIsLeft : Type 0
-EachFrontIsLeft = (bytes front : List ℕ) (earlier : List Event) (moment : ℕ) (image : Files) → moment ≤ length earlier → IsImage (Outcome earlier) image → Begins front bytes → Since (Replied bytes ∷ earlier) moment image (replies earlier ++ front)
+EachFrontIsLeft = (front more : List ℕ) (earlier : List Event) (moment : ℕ) (image : Files) → moment ≤ length earlier → IsImage (Outcome earlier) image → Since (Replied (front ++ more) ∷ earlier) moment image (replies earlier ++ front)
+
+-- a reply leaves of every file what might have been left of it
+abbrev pub RepliesKeepOutcomes : Type 0
+RepliesKeepOutcomes = (bytes : List ℕ) (earlier : List Event) (file : ℕ) → SameOutcomes (Outcome earlier file) (Outcome (Replied bytes ∷ earlier) file)
+
+-- whatever a call that failed did to a file may follow
+abbrev pub PartsAreValid : Type 0
+PartsAreValid = (change : Change) (file : ℕ) (now : Option (List ℕ)) (history : List Event) → Valid history → Fits change (current history file) now → Valid (OnFile change file now ∷ history)
+
+-- and so may any reply
+abbrev pub RepliesAreValid : Type 0
+RepliesAreValid = (bytes : List ℕ) (history : List Event) → Valid history → Valid (Replied bytes ∷ history)
 
 -- a call that failed may have done nothing
 abbrev pub NothingMayBeDone : Type 0
@@ -80,4 +92,4 @@ RemovalMayBePending = (file : ℕ) (history : List Event) →
 
 -- where it was to reply, any front may have been given
 abbrev pub AnyFrontMayBeGiven : Type 0
-AnyFrontMayBeGiven = (bytes front : List ℕ) (history : List Event) → Begins front bytes → RepliesInPart bytes history (Replied front ∷ history)
+AnyFrontMayBeGiven = (front more : List ℕ) (history : List Event) → RepliesInPart (front ++ more) history (Replied front ∷ history)

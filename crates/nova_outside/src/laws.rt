@@ -1,5 +1,5 @@
 // Laws of what a crash and a call that failed leave.
-ghost use Rattle.nova_outside.specs.Laws.{AbsentStaysAbsent, AnyBytesAreTorn, AnyBytesMayBeMade, AnyFrontMayBeGiven, AnythingAfterMaking, AnythingAfterRemoval, EachChoiceIsLeft, EachFrontIsLeft, EachTearIsLeft, EachTearMayBeRead, FailedSyncSettlesNothing, NothingElseNow, NothingMayBeDone, NowIsSince, OthersKeepTheirOutcomes, ReadingIsImage, RemovalMayBePending, SinceOnlyGrows};
+ghost use Rattle.nova_outside.specs.Laws.{AbsentStaysAbsent, AnyBytesAreTorn, AnyBytesMayBeMade, AnyFrontMayBeGiven, AnythingAfterMaking, AnythingAfterRemoval, EachChoiceIsLeft, EachFrontIsLeft, EachTearIsLeft, EachTearMayBeRead, FailedSyncSettlesNothing, NothingElseNow, NothingMayBeDone, NowIsSince, OthersKeepTheirOutcomes, PartsAreValid, ReadingIsImage, RemovalMayBePending, RepliesAreValid, RepliesKeepOutcomes, SinceOnlyGrows};
 
 /// What is read now is an image; a crash now leaves what one since any earlier moment may have left,
 /// and since now it leaves nothing else; and the more calls were made, the more may have been left.
@@ -16,6 +16,7 @@ pub fn crash_laws()
     ensures absent { AbsentStaysAbsent }
     ensures failed_sync { FailedSyncSettlesNothing }
     ensures others { OthersKeepTheirOutcomes }
+    ensures after_reply { RepliesKeepOutcomes }
     ensures images { EachChoiceIsLeft }
     ensures reply { EachFrontIsLeft }
 {}
@@ -27,4 +28,6 @@ pub fn failure_laws()
     ensures write { EachTearMayBeRead }
     ensures removal { RemovalMayBePending }
     ensures reply { AnyFrontMayBeGiven }
+    ensures valid { PartsAreValid }
+    ensures valid_reply { RepliesAreValid }
 {}

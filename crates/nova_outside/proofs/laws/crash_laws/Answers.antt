@@ -1,4 +1,4 @@
-use Rattle.std.proofs.Common.{[], ◌∷◌, inl, inr}
+use Rattle.std.proofs.Common.{[], ◌∷◌, inl, inr, refl}
 use Rattle.nova_outside.specs.Laws.{NowIsSince}
 use Rattle.nova_outside.proofs.Moments.{only_now}
 use Rattle.nova_outside.proofs.Outcomes.{stays}
@@ -19,3 +19,9 @@ returns-clause-only_now c = only_now
 
 pub returns-clause-grows : goal.returns-clause-grows
 returns-clause-grows c = λ event earlier moment image said le was. inr (le, inr was)
+
+pub returns-clause-reply : goal.returns-clause-reply
+returns-clause-reply c = λ front more earlier moment image le is. inr (le, inl (is, (front, (more, refl), refl)))
+
+pub returns-clause-after_reply : goal.returns-clause-after_reply
+returns-clause-after_reply c = λ bytes earlier file. (λ outcome after. after, λ outcome before. before)

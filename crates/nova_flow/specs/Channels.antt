@@ -34,7 +34,8 @@ columns_after channel done (text ∷ texts) =
     some_or (fault.BadColumn channel) (column_of done text) >>= λ c.
     columns_after channel (done ++ c ∷ []) texts
 
--- BadColumn: there is no column, or one isn't `NAME KIND`, or its name isn't one or was used before
+-- BadColumn: there is no column, or one isn't `NAME KIND`, or its name isn't one, is a keyword or was used
+-- before
 abbrev pub columns_of : List ℕ → List (List ℕ) → Answer (List Column)
 columns_of channel texts = at_least_one (fault.BadColumn channel) texts >>= λ _. columns_after channel [] texts
 

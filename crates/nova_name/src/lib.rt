@@ -1,4 +1,4 @@
-//! The names of channels, tasks and columns, and the keywords of scripts, which name nothing.
+//! The names of channels, tasks and columns, and the keywords of scripts, which name no column.
 #![tactic(auto)]
 
 mod keywords;

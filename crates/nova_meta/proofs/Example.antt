@@ -1,25 +1,10 @@
--- A wiring of three tasks.
-use Rattle.std.proofs.Common.{◌≡◌, ℕ, zero, suc, ◌<◌, true, false, [], ◌∷◌, get_or, Option, Some, None, refl, sym, subst, arith}
+-- The worked wiring is one.
+use Rattle.std.proofs.Common.{◌≡◌, ℕ, zero, suc, ◌<◌, true, false, get_or, Option, Some, None, refl, sym, subst, arith}
 use Rattle.std.specs.Prelude.{IfSome}
 use Rattle.nova_meta.specs.declared.wiring.Edge.{Edge}
-use Rattle.nova_meta.specs.declared.wiring.Wire.{Wire}
 use Rattle.nova_meta.specs.declared.wiring.Wiring.{Wiring}
+use Rattle.nova_meta.specs.Worked.{first, second, third, three}
 use Rattle.nova_meta.specs.Wired.{IsWire, IsWiring, is_based, wire_at, writer_of}
-
--- it reads channel 0 as new and channel 1 whole, into channel 2
-abbrev pub first : Wire
-first = record { inputs = (record { channel = 0; new = true }) ∷ ((record { channel = 1; new = false }) ∷ []); output = 2; based = false; after = None; stateful = false }
-
--- it reads channel 2 as new, into channel 3, after the first, and keeps state
-abbrev pub second : Wire
-second = record { inputs = (record { channel = 2; new = true }) ∷ []; output = 3; based = false; after = Some 0; stateful = true }
-
--- it reads channel 3 whole, and writes channel 4 anew
-abbrev pub third : Wire
-third = record { inputs = (record { channel = 3; new = false }) ∷ []; output = 4; based = true; after = None; stateful = false }
-
-abbrev pub three : Wiring
-three = record { writers = None ∷ (None ∷ (Some 0 ∷ (Some 1 ∷ (Some 2 ∷ [])))); tasks = first ∷ (second ∷ (third ∷ [])) }
 
 writers_in : (k : ℕ) (d : Option ℕ) → k < 5 → IfSome (get_or three.writers k d) (λ t. t < 3)
 writers_in zero d lt = tt

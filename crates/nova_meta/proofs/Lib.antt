@@ -6,3 +6,4 @@ pub mod Once
 pub mod Sound
 pub mod Numbered
 pub mod Example
+pub mod Worked

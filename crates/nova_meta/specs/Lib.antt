@@ -4,3 +4,4 @@ pub mod Shelves
 pub mod Prepared
 pub mod Named
 pub mod Sound
+pub mod Worked

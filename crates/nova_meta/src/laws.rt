@@ -1,6 +1,7 @@
 //! Laws of commits. Each is the contract of a function that does nothing.
 ghost use Rattle.nova_meta.specs.Named.{BlocksAreNumbered, CommitsCompose, ListsSpelledOnce};
 ghost use Rattle.nova_meta.specs.Sound.{CatalogsAreSound};
+ghost use Rattle.nova_meta.specs.Worked.{ClockAndCursors, CountersEnd};
 
 /// Commits in order are told by their bytes: no two lists of them have one list of spellings.
 pub fn lists_are_spelled_once()
@@ -23,4 +24,11 @@ pub fn catalogs_are_sound()
 /// one interval of a channel or one state part of a task.
 pub fn blocks_are_numbered()
     ensures { BlocksAreNumbered }
+{}
+
+/// What may come next where a counter stands at its bound or below, worked out; and a tick and a run
+/// move the clock and a cursor.
+pub fn counters_are_bounded()
+    ensures bounds { CountersEnd }
+    ensures clock { ClockAndCursors }
 {}

@@ -13,13 +13,14 @@ mod progress;
 mod running;
 mod shelf;
 mod spans;
-#[cfg(test)]
-mod tests;
 mod wiring;
 
 pub use captured::{Captured, Versions};
 pub use catalog::Catalog;
-pub use laws::{blocks_are_numbered, catalogs_are_sound, commits_compose, lists_are_spelled_once};
+pub use laws::{
+    blocks_are_numbered, catalogs_are_sound, commits_compose, counters_are_bounded,
+    lists_are_spelled_once,
+};
 pub use nova_commit::{Commit, MetaFault, PartFile, decode_commit, encode_commit};
 pub use prepared::Prepared;
 pub use wiring::{Edge, Wire, Wiring};

@@ -15,6 +15,10 @@ entry payload = length_bytes (length payload) ++ payload
 abbrev pub frame : List ℕ → List ℕ
 frame payload = entry payload ++ 0 ∷ []
 
+-- what a tick is written as: its tag, and the moment in eight bytes
+abbrev pub tick_payload : ℕ → List ℕ
+tick_payload moment = 3 ∷ length_bytes moment
+
 -- entries behind open gates
 abbrev pub records : List (List ℕ) → List ℕ
 records [] = []

@@ -15,7 +15,7 @@ mod tests;
 mod unread;
 
 pub use fault::LogFault;
-pub use framing::frame;
+pub use framing::{frame, frame_tick};
 pub use journal::Journal;
 pub use laws::format_laws;
 pub use marks::marked;

@@ -3,7 +3,7 @@ ghost use Rattle.nova_journal.specs.Log.{IsFrame};
 
 mod shelf;
 
-use crate::{Journal, LogFault, frame, marked};
+use crate::{Journal, LogFault, frame, frame_tick, marked};
 use nova_outside::Host;
 use shelf::Shelf;
 use std::alloc::Global;
@@ -37,8 +37,15 @@ fn two_records(alloc: Global, shelf: &mut Shelf) -> Result<u64, LogFault> {
 const TWO_RECORDS: [u8; 37] =
     *b"\x01\0\0\0\0\0\0\0\x09\x03\0\0\0\0\0\0\0\x3c\x01\0\0\0\0\0\0\0\x09\x03\0\0\0\0\0\0\0\x3d\0";
 
+const TICK_FRAME: [u8; 18] = *b"\0\0\0\0\0\0\0\x09\x03\0\0\0\0\0\0\0\x3c\0";
+
 #[test]
 fn two_records_are_made_and_read(rt: HostRuntime) -> Result<(), Fail> {
+    assert_eq!(rt;
+        frame_tick(60).as_slice(),
+        TICK_FRAME.as_slice(),
+        "the frame of a tick"
+    );
     let mut shelf = Shelf::new(rt.alloc());
     assert_eq!(rt; two_records(rt.alloc(), &mut shelf)?, 37, "length");
     assert_eq!(rt; marked(&mut shelf)?, Some(0), "the mark");

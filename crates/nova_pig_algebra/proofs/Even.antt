@@ -1,5 +1,5 @@
 -- In a plan whose nodes have kinds, the arms of each UNION have one width.
-use Rattle.std.specs.Prelude.{◌≡◌, ℕ, zero, suc, ◌+◌, Bool, true, false, if◌then◌else◌, List, [], ◌∷◌, ◌++◌, map, length, slice_get, Option, Some, None, refl}
+use Rattle.std.specs.Prelude.{◌≡◌, ℕ, zero, suc, ◌+◌, true, List, [], ◌∷◌, ◌++◌, map, length, slice_get, Option, Some, None, refl}
 use Rattle.std.proofs.Common.{ap, sym, ◌∙◌, subst, arith, length-append}
 use Rattle.nova_value.specs.declared.value.Kind.{Kind}
 use Rattle.nova_value.specs.Rows.{Shape, kinds}
@@ -9,8 +9,8 @@ use Rattle.nova_pig_algebra.specs.declared.node.Node.TheVariants as node
 use Rattle.nova_pig_algebra.specs.declared.node.Sort.{Sort}
 use Rattle.nova_pig_algebra.specs.declared.node.Sort.TheVariants.{Of, Condition}
 use Rattle.nova_pig_algebra.specs.Tree.{Tree, Nothing, Load, Filter, Join, Union, Distinct, End, Arm, tree_at, arms_at, foreach_tree, tree_of, trees_after, trees}
-use Rattle.nova_pig_algebra.specs.Sorts.{Over, Row, Bag, has, is_condition, sort_of}
-use Rattle.nova_pig_algebra.specs.Kinds.{same_kind, with_kind, item_kinds, kinds_at, as_rows, as_bag, filter_over, foreach_over, group_over, distinct_over, same_list, join_over, are_rows, all_rows, union_over, node_over, and_then, nodes_over}
+use Rattle.nova_pig_algebra.specs.Sorts.{Over, Row, Bag, sort_of}
+use Rattle.nova_pig_algebra.specs.Kinds.{with_kind, item_kinds, as_rows, are_rows, all_rows, node_over, and_then, nodes_over}
 use Rattle.nova_pig_algebra.specs.Keys.{facts, arm_facts, shape_at, none_constant, unknowns}
 use Rattle.nova_pig_algebra.specs.Plan.{Plan, IsKinded, kinds_of_inputs, tree_of_plan}
 use Rattle.nova_pig_algebra.proofs.Sets.{both_true}

@@ -14,20 +14,20 @@ use Rattle.nova_pig_algebra.proofs.Sets.{Agree, with_in}
 use Rattle.nova_pig_algebra.proofs.Values.{IsConstant, HasConstants, key_value}
 
 -- what a plain item gives
-abbrev Gives : Plain → PlanExpr → Type 0
-Gives (Column k) x = (row : Row) (f : Calls) → value_of x row f ≡ value_at row k
-Gives (By k) x = (row : Row) (f : Calls) → value_of x row f ≡ value_at row k
-Gives (Constant v) x = (row : Row) (f : Calls) → value_of x row f ≡ v
-Gives Computed x = Unit {0}
+abbrev ValueIs : Plain → PlanExpr → Type 0
+ValueIs (Column k) x = (row : Row) (f : Calls) → value_of x row f ≡ value_at row k
+ValueIs (By k) x = (row : Row) (f : Calls) → value_of x row f ≡ value_at row k
+ValueIs (Constant v) x = (row : Row) (f : Calls) → value_of x row f ≡ v
+ValueIs Computed x = Unit {0}
 
-plain_gives : (x : PlanExpr) → Gives (plain x) x
+plain_gives : (x : PlanExpr) → ValueIs (plain x) x
 unfolding given
 plain_gives x = go (out-PlanExpr x) (sym (roll-out-PlanExpr x))
   where
     at_layer : (y : PlanExpr-F PlanExpr) → x ≡ roll-PlanExpr y → (row : Row) (f : Calls) → value_of x row f ≡ value_of (roll-PlanExpr y) row f
     at_layer y is row f = ap (λ e. value_of e row f) is
 
-    go : (y : PlanExpr-F PlanExpr) → x ≡ roll-PlanExpr y → Gives (plain_step y) x
+    go : (y : PlanExpr-F PlanExpr) → x ≡ roll-PlanExpr y → ValueIs (plain_step y) x
     go (PlanExpr-F.Col k) is = λ row f. at_layer (PlanExpr-F.Col k) is row f ∙ ap (λ (g : Given). g.value row f) (fold-roll-PlanExpr Given given_step (PlanExpr-F.Col k))
     go (PlanExpr-F.GroupCol k) is = λ row f. at_layer (PlanExpr-F.GroupCol k) is row f ∙ ap (λ (g : Given). g.value row f) (fold-roll-PlanExpr Given given_step (PlanExpr-F.GroupCol k))
     go (PlanExpr-F.Num n) is = λ row f. at_layer (PlanExpr-F.Num n) is row f ∙ ap (λ (g : Given). g.value row f) (fold-roll-PlanExpr Given given_step (PlanExpr-F.Num n))
@@ -37,7 +37,7 @@ plain_gives x = go (out-PlanExpr x) (sym (roll-out-PlanExpr x))
 pub refers : (k : ℕ) (x : PlanExpr) → is_column k (plain x) ≡ true → (row : Row) (f : Calls) → value_of x row f ≡ value_at row k
 refers k x = go (plain x) (plain_gives x)
   where
-    go : (p : Plain) → Gives p x → is_column k p ≡ true → (row : Row) (f : Calls) → value_of x row f ≡ value_at row k
+    go : (p : Plain) → ValueIs p x → is_column k p ≡ true → (row : Row) (f : Calls) → value_of x row f ≡ value_at row k
     go (Column j) g e row f = g row f ∙ ap (value_at row) (eqb-true j k e)
     go (By j) g e row f = absurd cc
     go (Constant v) g e row f = absurd cc
@@ -51,7 +51,7 @@ some_is k (Some j) e = ap (λ (n : ℕ). let o : Option ℕ = Some n in o) (eqb-
 pub refers_by : (columns : List ℕ) (k : ℕ) (x : PlanExpr) → is_by columns k (plain x) ≡ true → (row : Row) (f : Calls) → value_of x (key_at columns row) f ≡ value_at row k
 refers_by columns k x = go (plain x) (plain_gives x)
   where
-    go : (p : Plain) → Gives p x → is_by columns k p ≡ true → (row : Row) (f : Calls) → value_of x (key_at columns row) f ≡ value_at row k
+    go : (p : Plain) → ValueIs p x → is_by columns k p ≡ true → (row : Row) (f : Calls) → value_of x (key_at columns row) f ≡ value_at row k
     go (Column j) g e row f = absurd cc
     go (By j) g e row f = g (key_at columns row) f ∙ key_value columns row j k (some_is k (slice_get columns j) e)
     go (Constant v) g e row f = absurd cc
@@ -118,7 +118,7 @@ made_has cs row f has (x ∷ items) = (go (plain x) (plain_gives x), made_has cs
     step k g None e = tt
     step k g (Some w) e = g row f ∙ has k w e
 
-    go : (p : Plain) → Gives p x → IsConstant (item_constant cs p) (value_of x row f)
+    go : (p : Plain) → ValueIs p x → IsConstant (item_constant cs p) (value_of x row f)
     go (Column k) g = step k g (constant_at cs k) refl
     go (By k) g = tt
     go (Constant v) g = g row f

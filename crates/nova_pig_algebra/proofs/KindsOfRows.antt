@@ -1,8 +1,7 @@
 -- The rows of each node have its kinds.
-use Rattle.std.specs.Prelude.{◌≡◌, ◌⊎◌, ℕ, zero, suc, Bool, true, false, if◌then◌else◌, cond, List, [], ◌∷◌, ◌++◌, map, filter, length, slice_get, Option, Some, None, refl}
+use Rattle.std.specs.Prelude.{◌≡◌, ◌⊎◌, ℕ, zero, suc, Bool, true, false, cond, List, [], ◌∷◌, ◌++◌, map, filter, length, slice_get, Option, Some, None, refl}
 use Rattle.std.proofs.Common.{ap, sym, ◌∙◌, inl, inr, subst, arith, length-append}
 use Rattle.nova_value.specs.declared.value.Kind.{Kind}
-use Rattle.nova_value.specs.declared.value.Kind.TheVariants as kind
 use Rattle.nova_value.specs.Orders.{same_keys}
 use Rattle.nova_value.specs.Rows.{Shape, FitKinds, kinds, key_at}
 use Rattle.nova_pig_algebra.specs.declared.node.PlanExpr.{PlanExpr}
@@ -10,8 +9,8 @@ use Rattle.nova_pig_algebra.specs.declared.node.Node.{Node}
 use Rattle.nova_pig_algebra.specs.declared.node.Node.TheVariants as node
 use Rattle.nova_pig_algebra.specs.Meaning.{Row, same_row, holds, made, no_calls, calls_over}
 use Rattle.nova_pig_algebra.specs.Tree.{Tree, Nothing, Load, Filter, Foreach, Join, Union, Distinct, End, tree_at, arms_at, foreach_tree, tree_of, trees_after, rows, arm_rows, rows_at, rising, members, joined}
-use Rattle.nova_pig_algebra.specs.Sorts.{Over, Row as OverRows, Bag, has, is_condition, sort_of}
-use Rattle.nova_pig_algebra.specs.Kinds.{same_kind, item_kinds, kinds_at, as_rows, as_bag, filter_over, foreach_over, group_over, distinct_over, same_list, join_over, are_rows, all_rows, union_over, node_over, and_then, nodes_over}
+use Rattle.nova_pig_algebra.specs.Sorts.{Over, Row as OverRows, Bag}
+use Rattle.nova_pig_algebra.specs.Kinds.{item_kinds, kinds_at, as_rows, are_rows, all_rows, node_over, and_then, nodes_over}
 use Rattle.nova_pig_algebra.specs.Literals.{all_have_values, node_has_values, nodes_have_values}
 use Rattle.nova_pig_algebra.specs.Plan.{kinds_of_inputs}
 use Rattle.nova_pig_algebra.specs.Statements.{In, AreTables}

@@ -3,12 +3,14 @@ pub mod Sets
 pub mod Values
 pub mod Items
 pub mod Rising
+pub mod RisingColumns
 pub mod Keyed
 pub mod Even
 pub mod Apart
 pub mod Agree
 pub mod Literal
 pub mod Steps
+pub mod Arms
 pub mod FactsOfTrees
 pub mod TreesOfNodes
 pub mod KindsOfNodes

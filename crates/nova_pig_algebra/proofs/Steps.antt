@@ -1,8 +1,13 @@
 -- One step of the loops over columns.
-use Rattle.std.specs.Prelude.{◌≡◌, ◌<◌, ◌+◌, ◌-◌, ℕ, zero, suc, if◌then◌else◌, List, [], ◌∷◌, ◌++◌, Some, refl}
-use Rattle.std.proofs.Common.{ap, sym, ◌∙◌, arith, append_assoc}
+use Rattle.std.specs.Prelude.{◌≡◌, ◌<◌, ◌+◌, ◌-◌, ℕ, zero, suc, if◌then◌else◌, Bool, List, [], ◌∷◌, ◌++◌, Option, Some, None, length, refl}
+use Rattle.std.proofs.Common.{ap, sym, ◌∙◌, arith, append_assoc, get_or}
+use Rattle.nova_pig_algebra.specs.declared.node.PlanExpr.{PlanExpr}
 use Rattle.nova_pig_algebra.specs.declared.facts.Facts.{Facts}
-use Rattle.nova_pig_algebra.specs.Keys.{unknown, unknowns, are_apart, in_arms, first_apart, columns_from}
+use Rattle.nova_pig_algebra.specs.Keys.{unknown, unknowns, are_apart, in_arms, first_apart, columns_from, Plain, and_place, place_of, places_of}
+
+none_of : (p : Option ℕ) → and_place p None ≡ None
+none_of None = refl
+none_of (Some p) = refl
 
 pub unknowns_suc : (n : ℕ) → unknowns (suc n) ≡ unknowns n ++ unknown ∷ []
 unknowns_suc zero = refl
@@ -27,3 +32,9 @@ pub columns_kept : (n i k : ℕ) (whole out new : List ℕ) → i < n → whole 
 columns_kept n i k whole out new h e same pushed =
     e ∙ ap (λ z. out ++ z) (columns_next n i h) ∙ sym (append_assoc out (i ∷ []) (columns_from (i + 1) (n - (i + 1))))
     ∙ ap (λ z. (out ++ z ∷ []) ++ columns_from (i + 1) (n - (i + 1))) (sym same) ∙ ap (λ z. z ++ columns_from (i + 1) (n - (i + 1))) (sym pushed)
+
+-- ---- a column that no item is
+pub missing : (test : ℕ → Plain → Bool) (items : List PlanExpr) (key : List ℕ) (i : ℕ) → i < length key → place_of (test (get_or key i 0)) items ≡ None → places_of test items key ≡ None
+missing test items [] i h e = absurd (omega arith)
+missing test items (k ∷ ks) zero h e = ap (λ p. and_place p (places_of test items ks)) e
+missing test items (k ∷ ks) (suc i) h e = ap (and_place (place_of (test k) items)) (missing test items ks i (omega arith) e) ∙ none_of (place_of (test k) items)

@@ -1,9 +1,9 @@
 -- What the laws of this crate say. Each is the contract of a function of `laws`.
-use Rattle.std.specs.Prelude.{◌≡◌, ◌⊎◌, ℕ, List, [], ◌∷◌, Some, slice_get}
+use Rattle.std.specs.Prelude.{◌≡◌, ◌⊎◌, ℕ, suc, ◌<◌, ◌≤◌, List, [], ◌∷◌, length, Some, slice_get}
 use Rattle.std.specs.List.{AllByRecursion}
 use Rattle.nova_value.specs.declared.value.Value.{Value}
 use Rattle.nova_value.specs.declared.value.Kind.{Kind}
-use Rattle.nova_value.specs.Rows.{Shape, FitKinds, FitsRow, value_at, key_at}
+use Rattle.nova_value.specs.Rows.{Shape, IsShape, FitKinds, FitsRow, value_at, key_at}
 use Rattle.nova_pig_algebra.specs.declared.node.PlanExpr.{PlanExpr}
 use Rattle.nova_pig_algebra.specs.declared.node.Node.{Node}
 use Rattle.nova_pig_algebra.specs.Meaning.{Row, Calls, value_of, holds, calls}
@@ -54,6 +54,16 @@ KeysTellRowsApart = (p : Plan) → IsKinded p → (key : List ℕ) → plan_key 
 abbrev pub NodeKeysTellRowsApart : Type 0
 NodeKeysTellRowsApart = (p : Plan) → IsKinded p → (k : ℕ) (key : List ℕ) → (facts p.inputs (tree_at (trees p.nodes) k)).key ≡ Some key
     → (tables : List (List Row)) → AreTables p.inputs tables → Keyed key (rows (tree_at (trees p.nodes) k) tables)
+
+-- rising columns: the first is this one or a later one, each is below the next, and all are below the width
+abbrev pub RisingColumns : ℕ → ℕ → List ℕ → Type 0
+RisingColumns from width [] = Unit {0}
+RisingColumns from width (k ∷ ks) = (from ≤ k) × (k < width) × RisingColumns (suc k) width ks
+
+-- the key of a node is a rising list of its columns, so two keys are one set where they are one list
+abbrev pub KeysRise : Type 0
+KeysRise = (p : Plan) → Every IsShape p.inputs → (k : ℕ) (key : List ℕ) → (facts p.inputs (tree_at (trees p.nodes) k)).key ≡ Some key
+    → RisingColumns 0 (length (facts p.inputs (tree_at (trees p.nodes) k)).constants) key
 
 -- a constant column has its value in each row of its node, for all tables of the input schemas
 abbrev pub ConstantsHold : Type 0

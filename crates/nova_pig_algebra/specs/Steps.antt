@@ -1,5 +1,8 @@
 -- What is known of the nodes, from the left, each by what is known of those before it.
-use Rattle.std.specs.Prelude.{ℕ, List, [], ◌∷◌, ◌++◌, map, slice_index_or, slice_get, Option, Some, None}
+use Rattle.std.specs.Prelude.{ℕ, List, [], ◌∷◌, ◌++◌, map, slice_index_or, slice_get, Option, Some, None, Bool, true, false, not, ◌&&◌}
+use Rattle.std.specs.Ordering.{eq_by_cmp}
+use Rattle.nova_value.specs.declared.value.Value.{Value}
+use Rattle.nova_value.specs.Order.{value_cmp}
 use Rattle.nova_value.specs.Rows.{Shape}
 use Rattle.nova_pig_algebra.specs.declared.facts.Facts.{Facts}
 use Rattle.nova_pig_algebra.specs.declared.node.PlanExpr.{PlanExpr}
@@ -34,3 +37,9 @@ node_facts inputs nodes done (node.Distinct from) = distinct_facts (fact_at done
 abbrev pub facts_after : List Shape → List Node → List Facts → List Node → List Facts
 facts_after inputs nodes done [] = done
 facts_after inputs nodes done (n ∷ rest) = facts_after inputs nodes (done ++ node_facts inputs nodes done n ∷ []) rest
+
+-- all have a value, and none has w
+abbrev pub each_other : Value → List (Option Value) → Bool
+each_other w [] = true
+each_other w (None ∷ os) = false
+each_other w (Some v ∷ os) = not (eq_by_cmp value_cmp v w) && each_other w os

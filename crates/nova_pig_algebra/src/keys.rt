@@ -89,15 +89,15 @@ fn node_constant<'a>(done: &[Facts<'a>], node: u32, column: usize) -> Option<Con
     }
 }
 
-/// Whether each arm has another value than this at the column.
-fn all_other(value: &Constant<'_>, done: &[Facts<'_>], arms: &[u32], column: usize) -> bool
-    ensures { result ≡ spec.all_other value.now (spec.in_arms column (step.facts_at done.now arms.now)) }
+/// Whether each of the arms has a value at the column, and another one than this.
+fn each_other(done: &[Facts<'_>], arms: &[u32], column: usize, value: &Constant<'_>) -> bool
+    ensures { result ≡ step.each_other value.now (spec.in_arms column (step.facts_at done.now arms.now)) }
 {
     for arm in arms {
         match node_constant(done, *arm, column) {
             None => return false,
             Some(other) => {
-                if value.is_same(&other) {
+                if other.is_same(value) {
                     return false;
                 }
             }
@@ -106,7 +106,9 @@ fn all_other(value: &Constant<'_>, done: &[Facts<'_>], arms: &[u32], column: usi
     true
 }
 
-/// Whether the column tells the arms apart.
+/// Whether the column tells the arms apart. Each is compared with those before it, so an arm that
+/// comes again ends the search, and no more of them are compared than there are nodes.
+#[tactic(auto, using(crate::proofs::Arms::one_more, crate::proofs::Arms::not_constant, crate::proofs::Arms::same_constant))]
 fn are_apart(done: &[Facts<'_>], arms: &[u32], column: usize) -> bool
     ensures { result ≡ spec.are_apart (spec.in_arms column (step.facts_at done.now arms.now)) }
 {
@@ -114,7 +116,7 @@ fn are_apart(done: &[Facts<'_>], arms: &[u32], column: usize) -> bool
         match node_constant(done, *arm, column) {
             None => return false,
             Some(value) => {
-                if !all_other(&value, done, &arms[at + 1..], column) {
+                if !each_other(done, &arms[..at], column, &value) {
                     return false;
                 }
             }

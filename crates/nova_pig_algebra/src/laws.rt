@@ -8,6 +8,11 @@ pub fn keys_tell_rows_apart()
     ensures nodes { law.NodeKeysTellRowsApart }
 {}
 
+/// The key of a node is a rising list of its columns, whatever the plan.
+pub fn keys_rise()
+    ensures { law.KeysRise }
+{}
+
 /// A constant column of a node has its value in each row of the node, whatever the tables.
 pub fn constants_hold()
     ensures { law.ConstantsHold }

@@ -20,8 +20,8 @@ pub use columns::{column_set, covers, same_columns};
 pub use facts::{Constant, Facts};
 pub use known::{facts_of_nodes, key_of_nodes};
 pub use laws::{
-    constants_hold, expressions_depend_on_their_calls, keys_tell_rows_apart, rows_fit_their_kinds,
-    trees_are_of_earlier_nodes,
+    constants_hold, expressions_depend_on_their_calls, keys_rise, keys_tell_rows_apart,
+    rows_fit_their_kinds, trees_are_of_earlier_nodes,
 };
 pub use node::{Node, PlanExpr, Sort};
 pub use plan::Plan;

@@ -62,27 +62,16 @@ fn place_by(columns: &[u32], column: u32, items: &[PlanExpr]) -> Option<usize>
     None
 }
 
-/// The set with one place more, where both are there.
-fn and_place(
-    alloc: Global,
-    place: Option<usize>,
-    set: Option<Items<u32>>,
-) -> Result<Option<Items<u32>>, AllocError>
-    ensures { IfOk result (λ r. r ≡ spec.and_place place set) }
+/// The set with one place more.
+fn and_place(alloc: Global, place: usize, set: &[u32]) -> Result<Items<u32>, AllocError>
+    ensures { IfOk result (λ r. r ≡ spec.with_column place set.now) }
 {
-    match place {
-        None => Ok(None),
-        Some(place) => match set {
-            None => Ok(None),
-            Some(set) => {
-                let column = narrow(place)?;
-                Ok(Some(with_column(alloc, column, set.as_slice())?))
-            }
-        },
-    }
+    let column = narrow(place)?;
+    with_column(alloc, column, set)
 }
 
-/// For each key column the first item that is a plain reference to it.
+/// For each key column the first item that is a plain reference to it. The first column from the
+/// right that no item is ends the search.
 pub(crate) fn places_of(
     alloc: Global,
     items: &[PlanExpr],
@@ -90,16 +79,20 @@ pub(crate) fn places_of(
 ) -> Result<Option<Items<u32>>, AllocError>
     ensures { IfOk result (λ r. r ≡ spec.places_of spec.is_column items.now key.now) }
 {
-    let mut set = Some(Items::new(alloc));
+    let mut set = Items::new(alloc);
     let mut at = key.len();
     while at > 0 {
         at -= 1;
-        set = and_place(alloc, place_of(key[at], items), set)?;
+        match place_of(key[at], items) {
+            Some(place) => set = and_place(alloc, place, set.as_slice())?,
+            None => return Ok(None),
+        }
     }
-    Ok(set)
+    Ok(Some(set))
 }
 
-/// For each of these BY columns the first item that is it.
+/// For each of these BY columns the first item that is it. The first column from the right that no
+/// item is ends the search.
 pub(crate) fn places_by(
     alloc: Global,
     columns: &[u32],
@@ -107,11 +100,14 @@ pub(crate) fn places_by(
 ) -> Result<Option<Items<u32>>, AllocError>
     ensures { IfOk result (λ r. r ≡ spec.places_of (spec.is_by columns.now) items.now columns.now) }
 {
-    let mut set = Some(Items::new(alloc));
+    let mut set = Items::new(alloc);
     let mut at = columns.len();
     while at > 0 {
         at -= 1;
-        set = and_place(alloc, place_by(columns, columns[at], items), set)?;
+        match place_by(columns, columns[at], items) {
+            Some(place) => set = and_place(alloc, place, set.as_slice())?,
+            None => return Ok(None),
+        }
     }
-    Ok(set)
+    Ok(Some(set))
 }

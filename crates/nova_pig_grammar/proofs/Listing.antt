@@ -3,10 +3,10 @@ use Rattle.std.proofs.Common.{◌≡◌, ℕ, zero, suc, false, List, [], ◌∷
 use Rattle.nova_pig_tree.specs.declared.token.Token.{Token}
 use Rattle.nova_pig_tree.specs.declared.token.Token.TheVariants.{Symbol}
 use Rattle.nova_pig_tree.specs.declared.token.Symbol.TheVariants as s
-use Rattle.nova_pig_grammar.specs.ExpressionReading.{Reader, and_then}
+use Rattle.nova_pig_grammar.specs.ExpressionReading.{Reader, and_then, begins_comma}
 use Rattle.nova_pig_grammar.proofs.Steps.{bound, same_rest, same_value}
 use Rattle.nova_pig_grammar.proofs.ExpressionSound.{joined}
-use Rattle.nova_pig_grammar.specs.StatementReading.{more_by, more, listed, begins_comma}
+use Rattle.nova_pig_grammar.specs.StatementReading.{more_by, more, listed}
 use Rattle.nova_pig_grammar.specs.Statement.{Tail, none, next, Listed, begin}
 use Rattle.nova_pig_grammar.proofs.Lists.{NoLonger, more-comma, more-stop}
 

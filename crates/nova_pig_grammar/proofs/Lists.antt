@@ -6,9 +6,9 @@ use Rattle.nova_pig_tree.specs.declared.token.Token.TheVariants.{Symbol}
 use Rattle.nova_pig_tree.specs.declared.token.Symbol.TheVariants as s
 use Rattle.nova_pig_grammar.specs.declared.fault.Fault.{Fault}
 use Rattle.nova_pig_grammar.specs.declared.fault.Fault.TheVariants.{Syntax, NoMemory}
-use Rattle.nova_pig_grammar.specs.ExpressionReading.{Reading, Reader, and_then, Answers}
+use Rattle.nova_pig_grammar.specs.ExpressionReading.{Reading, Reader, and_then, begins_comma, Answers}
 use Rattle.nova_pig_grammar.proofs.Steps.{bind-same}
-use Rattle.nova_pig_grammar.specs.StatementReading.{more_by, more, listed, ahead, begins_comma}
+use Rattle.nova_pig_grammar.specs.StatementReading.{more_by, more, listed, ahead}
 
 -- a reader that adds no tokens
 abbrev pub NoLonger : {A : Type 0} → Reader A → Type 0

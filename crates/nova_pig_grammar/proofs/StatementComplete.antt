@@ -7,11 +7,12 @@ use Rattle.nova_pig_tree.specs.declared.token.Token.{Token}
 use Rattle.nova_pig_tree.specs.declared.token.Token.TheVariants.{Ident, Word, Symbol}
 use Rattle.nova_pig_tree.specs.declared.token.Word.TheVariants as w
 use Rattle.nova_pig_tree.specs.declared.token.Symbol.TheVariants as s
+use Rattle.nova_pig_grammar.specs.declared.operators.Mark.TheVariants as m
 use Rattle.nova_pig_grammar.specs.Expression as g
 use Rattle.nova_pig_grammar.specs.Expression.{IsField}
-use Rattle.nova_pig_grammar.specs.ExpressionReading.{and_then, closed, field_at}
+use Rattle.nova_pig_grammar.specs.ExpressionReading.{and_then, followed, closed, field_at}
 use Rattle.nova_pig_grammar.proofs.ExpressionComplete.{field-read, Stops}
-use Rattle.nova_pig_grammar.specs.StatementReading.{name_at, columns_at, by_at, op_at, two, comma_at, ended, body_of, all_of}
+use Rattle.nova_pig_grammar.specs.StatementReading.{name_at, columns_at, name_then, op_at, two, ended, body_of, all_of}
 use Rattle.nova_pig_grammar.specs.Statement as st
 use Rattle.nova_pig_grammar.specs.Statement.{IsColumns, IsName, IsOp, Ended, IsStatement}
 use Rattle.nova_pig_tree.specs.declared.statement.Body.{Body}
@@ -57,7 +58,7 @@ op-complete st.distinct rest = refl
 op-complete (st.join {a = a} {b = b} {ts = ts} {us = us} {fs = fs} {gs = gs} d d') rest =
     let mid : List Token = Symbol s.Comma ∷ Ident b ∷ Word w.By ∷ (us ++ Symbol s.Semicolon ∷ rest) in
     ap (λ vs. op_at (Word w.Join ∷ Ident a ∷ Word w.By ∷ vs)) (append_assoc ts (Symbol s.Comma ∷ Ident b ∷ Word w.By ∷ us) (Symbol s.Semicolon ∷ rest))
-    ∙ ap (λ r. and_then r (λ fs vs. and_then (comma_at fs vs) (λ fs vs. and_then (by_at vs) (λ b vs. and_then (columns_at vs) (λ gs vs. Some (op.Join a fs b gs, vs))))))
+    ∙ ap (λ r. and_then r (λ fs vs. and_then (followed m.Comma fs vs) (λ fs vs. and_then (name_then m.By vs) (λ b vs. and_then (columns_at vs) (λ gs vs. Some (op.Join a fs b gs, vs))))))
     (columns-complete ts fs d mid refl)
     ∙ ap (λ r. and_then r (λ gs vs. Some (op.Join a fs b gs, vs))) (columns-complete us gs d' (Symbol s.Semicolon ∷ rest) refl)
 op-complete (st.union d) rest =

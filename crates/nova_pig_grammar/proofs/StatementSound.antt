@@ -7,11 +7,12 @@ use Rattle.nova_pig_tree.specs.declared.token.Token.{Token}
 use Rattle.nova_pig_tree.specs.declared.token.Token.TheVariants.{Ident, Word, Group, Literal, Symbol}
 use Rattle.nova_pig_tree.specs.declared.token.Word.TheVariants as w
 use Rattle.nova_pig_tree.specs.declared.token.Symbol.TheVariants as s
+use Rattle.nova_pig_grammar.specs.declared.operators.Mark.TheVariants as m
 use Rattle.nova_pig_grammar.specs.Expression.{IsField, whole}
-use Rattle.nova_pig_grammar.specs.ExpressionReading.{Reading, and_then, read, At, closed, field_at}
+use Rattle.nova_pig_grammar.specs.ExpressionReading.{Reading, and_then, read, At, followed, closed, field_at}
 use Rattle.nova_pig_grammar.proofs.Steps.{bound, same_rest, same_value}
 use Rattle.nova_pig_grammar.proofs.ExpressionSound.{read-sound, field_at-sound, joined, closed-sound}
-use Rattle.nova_pig_grammar.specs.StatementReading.{listed, item_at, name_at, columns_at, by_at, generate_at, op_at, two, comma_at, ended, cut_at, body_of, all_of}
+use Rattle.nova_pig_grammar.specs.StatementReading.{listed, item_at, name_at, columns_at, name_then, op_at, two, ended, cut_at, body_of, all_of}
 use Rattle.nova_pig_grammar.specs.Statement as st
 use Rattle.nova_pig_grammar.specs.Statement.{Listed, IsColumns, IsName, IsOp, IsStatement}
 use Rattle.nova_pig_tree.specs.declared.statement.Body.{Body}
@@ -42,11 +43,11 @@ columns-sound (Symbol s.Open ∷ ts) fs rest eq =
     )
 columns-sound ts fs rest eq = column-other ts fs rest eq
 
-by-sound : (ts : List Token) (a : List ℕ) (rest : List Token) → by_at ts ≡ Some (a, rest) → ts ≡ Ident a ∷ Word w.By ∷ rest
+by-sound : (ts : List Token) (a : List ℕ) (rest : List Token) → name_then m.By ts ≡ Some (a, rest) → ts ≡ Ident a ∷ Word w.By ∷ rest
 by-sound (Ident n ∷ Word w.By ∷ ts) a rest eq = ap (λ us. Ident n ∷ Word w.By ∷ us) (same_rest eq) ∙ ap (λ n. Ident n ∷ Word w.By ∷ rest) (same_value eq)
 by-sound _ a rest eq = absurd cc
 
-generate-sound : (ts : List Token) (a : List ℕ) (rest : List Token) → generate_at ts ≡ Some (a, rest) → ts ≡ Ident a ∷ Word w.Generate ∷ rest
+generate-sound : (ts : List Token) (a : List ℕ) (rest : List Token) → name_then m.Generate ts ≡ Some (a, rest) → ts ≡ Ident a ∷ Word w.Generate ∷ rest
 generate-sound (Ident n ∷ Word w.Generate ∷ ts) a rest eq = ap (λ us. Ident n ∷ Word w.Generate ∷ us) (same_rest eq) ∙ ap (λ n. Ident n ∷ Word w.Generate ∷ rest) (same_value eq)
 generate-sound _ a rest eq = absurd cc
 
@@ -54,7 +55,7 @@ name-sound : Sound name_at IsName
 name-sound (Ident n ∷ ts) a rest eq = (Ident n ∷ [], ap (λ us. Ident n ∷ us) (same_rest eq), subst (λ z. IsName (Ident n ∷ []) z) (same_value eq) st.name)
 name-sound _ a rest eq = absurd cc
 
-comma-sound : {A : Type 0} (x : A) (ts : List Token) (y : A) (rest : List Token) → comma_at x ts ≡ Some (y, rest) → (ts ≡ Symbol s.Comma ∷ rest) × (x ≡ y)
+comma-sound : {A : Type 0} (x : A) (ts : List Token) (y : A) (rest : List Token) → followed m.Comma x ts ≡ Some (y, rest) → (ts ≡ Symbol s.Comma ∷ rest) × (x ≡ y)
 comma-sound x (Symbol s.Comma ∷ ts) y rest eq = (ap (λ us. Symbol s.Comma ∷ us) (same_rest eq), same_value eq)
 comma-sound x _ y rest eq = absurd cc
 
@@ -71,7 +72,7 @@ two-sound ts f [] mid o rest is d eq = absurd cc
 pub op-sound : Sound op_at IsOp
 op-sound (Word w.Load ∷ Literal c ∷ ts) o rest eq = (Word w.Load ∷ Literal c ∷ [], ap (λ us. Word w.Load ∷ Literal c ∷ us) (same_rest eq), op-along (Word w.Load ∷ Literal c ∷ []) st.load (same_value eq))
 op-sound (Word w.Filter ∷ ts) o rest eq =
-    let (a, mid, e1, then) = bound (by_at ts) (λ a us. and_then (read (At whole) us) (λ x vs. Some (op.Filter a x, vs))) eq in
+    let (a, mid, e1, then) = bound (name_then m.By ts) (λ a us. and_then (read (At whole) us) (λ x vs. Some (op.Filter a x, vs))) eq in
     let (x, end, e2, last) = bound (read (At whole) mid) (λ x vs. Some (op.Filter a x, vs)) then in
     let (f, f-is, d) = read-sound (At whole) mid x end e2 in (
       Word w.Filter ∷ Ident a ∷ Word w.By ∷ f,
@@ -79,7 +80,7 @@ op-sound (Word w.Filter ∷ ts) o rest eq =
       op-along (Word w.Filter ∷ Ident a ∷ Word w.By ∷ f) (st.filter d) (same_value last),
     )
 op-sound (Word w.Foreach ∷ ts) o rest eq =
-    let (a, mid, e1, then) = bound (generate_at ts) (λ a us. and_then (listed item_at us) (λ x vs. Some (op.Foreach a x, vs))) eq in
+    let (a, mid, e1, then) = bound (name_then m.Generate ts) (λ a us. and_then (listed item_at us) (λ x vs. Some (op.Foreach a x, vs))) eq in
     let (x, end, e2, last) = bound (listed item_at mid) (λ x vs. Some (op.Foreach a x, vs)) then in
     let (f, f-is, d) = items-sound mid x end e2 in (
       Word w.Foreach ∷ Ident a ∷ Word w.Generate ∷ f,
@@ -87,7 +88,7 @@ op-sound (Word w.Foreach ∷ ts) o rest eq =
       op-along (Word w.Foreach ∷ Ident a ∷ Word w.Generate ∷ f) (st.foreach d) (same_value last),
     )
 op-sound (Group b ∷ ts) o rest eq =
-    let (a, mid, e1, then) = bound (by_at ts) (λ a us. and_then (columns_at us) (λ x vs. Some (op.Group a x, vs))) eq in
+    let (a, mid, e1, then) = bound (name_then m.By ts) (λ a us. and_then (columns_at us) (λ x vs. Some (op.Group a x, vs))) eq in
     let (x, end, e2, last) = bound (columns_at mid) (λ x vs. Some (op.Group a x, vs)) then in
     let (f, f-is, d) = columns-sound mid x end e2 in (
       Group b ∷ Ident a ∷ Word w.By ∷ f,
@@ -95,10 +96,10 @@ op-sound (Group b ∷ ts) o rest eq =
       op-along (Group b ∷ Ident a ∷ Word w.By ∷ f) (st.group b d) (same_value last),
     )
 op-sound (Word w.Join ∷ ts) o rest eq =
-    let (a, m1, e1, t1) = bound (by_at ts) (λ a us. and_then (columns_at us) (λ fs vs. and_then (comma_at fs vs) (λ fs vs. and_then (by_at vs) (λ b vs. and_then (columns_at vs) (λ gs vs. Some (op.Join a fs b gs, vs)))))) eq in
-    let (fs, m2, e2, t2) = bound (columns_at m1) (λ fs vs. and_then (comma_at fs vs) (λ fs vs. and_then (by_at vs) (λ b vs. and_then (columns_at vs) (λ gs vs. Some (op.Join a fs b gs, vs))))) t1 in
-    let (fs2, m3, e3, t3) = bound (comma_at fs m2) (λ fs vs. and_then (by_at vs) (λ b vs. and_then (columns_at vs) (λ gs vs. Some (op.Join a fs b gs, vs)))) t2 in
-    let (b, m4, e4, t4) = bound (by_at m3) (λ b vs. and_then (columns_at vs) (λ gs vs. Some (op.Join a fs2 b gs, vs))) t3 in
+    let (a, m1, e1, t1) = bound (name_then m.By ts) (λ a us. and_then (columns_at us) (λ fs vs. and_then (followed m.Comma fs vs) (λ fs vs. and_then (name_then m.By vs) (λ b vs. and_then (columns_at vs) (λ gs vs. Some (op.Join a fs b gs, vs)))))) eq in
+    let (fs, m2, e2, t2) = bound (columns_at m1) (λ fs vs. and_then (followed m.Comma fs vs) (λ fs vs. and_then (name_then m.By vs) (λ b vs. and_then (columns_at vs) (λ gs vs. Some (op.Join a fs b gs, vs))))) t1 in
+    let (fs2, m3, e3, t3) = bound (followed m.Comma fs m2) (λ fs vs. and_then (name_then m.By vs) (λ b vs. and_then (columns_at vs) (λ gs vs. Some (op.Join a fs b gs, vs)))) t2 in
+    let (b, m4, e4, t4) = bound (name_then m.By m3) (λ b vs. and_then (columns_at vs) (λ gs vs. Some (op.Join a fs2 b gs, vs))) t3 in
     let (gs, m5, e5, t5) = bound (columns_at m4) (λ gs vs. Some (op.Join a fs2 b gs, vs)) t4 in
     let (f, f-is, d) = columns-sound m1 fs m2 e2 in
     let (h, h-is, d') = columns-sound m4 gs m5 e5 in

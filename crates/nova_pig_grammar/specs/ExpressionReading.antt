@@ -1,5 +1,5 @@
 -- The reading of tokens from the left, which a script has one of.
-use Rattle.std.specs.Prelude.{◌≡◌, ℕ, zero, suc, ◌+◌, ◌*◌, ◌<◌, Bool, true, false, List, [], ◌∷◌, length, Option, Some, None, Result, Ok, Err}
+use Rattle.std.specs.Prelude.{◌≡◌, ℕ, zero, suc, ◌+◌, ◌*◌, ◌<◌, Bool, true, false, List, [], ◌∷◌, length, Option, Some, None, Result, Ok, Err, if◌then◌else◌}
 use Rattle.nova_pig_grammar.specs.declared.fault.Fault.{Fault}
 use Rattle.nova_pig_grammar.specs.declared.fault.Fault.TheVariants.{Syntax, NoMemory}
 use Rattle.nova_pig_tree.specs.declared.expression.Field.{Field}
@@ -12,10 +12,12 @@ use Rattle.nova_pig_tree.specs.declared.token.Token.{Token}
 use Rattle.nova_pig_tree.specs.declared.token.Token.TheVariants.{Ident, Word, Group, Number, Position, Literal, Symbol}
 use Rattle.nova_pig_tree.specs.declared.token.Word.TheVariants as w
 use Rattle.nova_pig_tree.specs.declared.token.Symbol.TheVariants as s
+use Rattle.nova_pig_grammar.specs.declared.operators.Mark.{Mark}
+use Rattle.nova_pig_grammar.specs.declared.operators.Mark.TheVariants as m
 use Rattle.nova_pig_grammar.specs.declared.operators.Level.{Level}
 use Rattle.nova_pig_grammar.specs.declared.operators.Level.TheVariants as l
 use Rattle.nova_pig_grammar.specs.declared.operators.BinaryOp.{BinaryOp}
-use Rattle.nova_pig_grammar.specs.Operators.{operator, comparison, combine, call_kind, group_word}
+use Rattle.nova_pig_grammar.specs.Operators.{is, operator, comparison, combine, call_kind, group_word}
 use Rattle.nova_pig_grammar.specs.Expression.{Part, Left, Neg, Comp, Unary, Primary, operand, whole}
 
 -- what is left after a part was read
@@ -41,10 +43,17 @@ pub data Goal : Type 0 where
   At : Part → Goal
   After : Level → Expr → Goal
 
--- the `)` after a part
+-- this token, of which nothing is kept
+abbrev pub expected : Mark → Reader (Unit {0})
+expected mark [] = None
+expected mark (t ∷ ts) = if is mark t then Some (tt, ts) else None
+
+-- a part that was read, where this token follows it
+abbrev pub followed : {A : Type 0} → Mark → A → Reader A
+followed mark x = expected mark >>= (λ _. pure x)
+
 abbrev pub closed : {A : Type 0} → A → Reader A
-closed x (Symbol s.Close ∷ ts) = Some (x, ts)
-closed x _ = None
+closed = followed m.Close
 
 -- what follows the first name of a field
 abbrev pub field_after : List ℕ → Reader Field
@@ -124,8 +133,7 @@ module _ (read : Goal → Reader Expr) where
   unary ts = read (At Primary) ts
 
   abbrev pub third : Reader Expr
-  third (Symbol s.Colon ∷ ts) = (read (At whole) >>= closed) ts
-  third _ = None
+  third = expected m.Colon >>= (λ _. read (At whole) >>= closed)
 
   -- the two values of a choice
   abbrev pub branches : Reader (Expr × Expr)
@@ -198,19 +206,31 @@ abbrev pub NextOpen : Bool → List Token → List Token → Type 0
 NextOpen true old new = (length new < length old) × (read (At Primary) old ≡ (read (At whole) >>= opened read) new)
 NextOpen false old new = (new ≡ old) × (read (At Primary) old ≡ single old)
 
+-- this token was next and was taken, or another one or none was and stays
+abbrev pub Eats : Mark → Bool → List Token → List Token → Type 0
+Eats mark true old new = (length new < length old) × (expected mark old ≡ Some (tt, new))
+Eats mark false old new = (new ≡ old) × (expected mark old ≡ None)
+
+-- whether a comma is next
+abbrev pub begins_comma : List Token → Bool
+begins_comma [] = false
+begins_comma (t ∷ ts) = is m.Comma t
+
+abbrev pub NextComma : Bool → List Token → List Token → Type 0
+NextComma true old new = old ≡ Symbol s.Comma ∷ new
+NextComma false old new = (new ≡ old) × (begins_comma old ≡ false)
+
+-- what reading goes on with where NOT, `-`, `(` or a comma was taken or stays; no other token decides it
+abbrev pub Decides : Mark → Bool → List Token → List Token → Type 0
+Decides m.Not = NextNot
+Decides m.Minus = NextMinus
+Decides m.Open = NextOpen
+Decides m.Comma = NextComma
+Decides _ = λ taken old new. Unit {0}
+
 -- after the first expression in parentheses: whether it is a condition
 abbrev pub NextMark : Result Bool Fault → List Token → List Token → Type 0
 NextMark (Ok true) old new = (length new < length old) × ((x : Expr) → opened read x old ≡ (branches read >>= (λ b. pure (e.If x b.0 b.1))) new)
 NextMark (Ok false) old new = (length new < length old) × ((x : Expr) → opened read x old ≡ Some (x, new))
 NextMark (Err Syntax) old new = (x : Expr) → opened read x old ≡ None
 NextMark (Err NoMemory) old new = Unit {0}
-
-abbrev pub NextColon : Result (Unit {0}) Fault → List Token → List Token → Type 0
-NextColon (Ok _) old new = (length new < length old) × (third read old ≡ (read (At whole) >>= closed) new)
-NextColon (Err Syntax) old new = third read old ≡ None
-NextColon (Err NoMemory) old new = Unit {0}
-
-abbrev pub NextClose : Result (Unit {0}) Fault → List Token → List Token → Type 0
-NextClose (Ok _) old new = (length new < length old) × ((x : Expr) → closed x old ≡ Some (x, new))
-NextClose (Err Syntax) old new = (x : Expr) → closed x old ≡ None
-NextClose (Err NoMemory) old new = Unit {0}

@@ -7,13 +7,31 @@ use Rattle.nova_pig_tree.specs.declared.expression.CompareOp.{CompareOp}
 use Rattle.nova_pig_tree.specs.declared.expression.Expr.{Expr}
 use Rattle.nova_pig_tree.specs.declared.expression.Expr.TheVariants as e
 use Rattle.nova_pig_tree.specs.declared.token.Token.{Token}
-use Rattle.nova_pig_tree.specs.declared.token.Token.TheVariants.{Word, Symbol}
+use Rattle.nova_pig_tree.specs.declared.token.Token.TheVariants.{Word, Group, Symbol}
 use Rattle.nova_pig_tree.specs.declared.token.Word.TheVariants as w
 use Rattle.nova_pig_tree.specs.declared.token.Symbol.TheVariants as s
+use Rattle.nova_pig_grammar.specs.declared.operators.Mark.{Mark}
+use Rattle.nova_pig_grammar.specs.declared.operators.Mark.TheVariants as m
 use Rattle.nova_pig_grammar.specs.declared.operators.Level.{Level}
 use Rattle.nova_pig_grammar.specs.declared.operators.Level.TheVariants as l
 use Rattle.nova_pig_grammar.specs.declared.operators.BinaryOp.{BinaryOp}
 use Rattle.nova_pig_grammar.specs.declared.operators.BinaryOp.TheVariants as b
+
+-- whether the token is the one that reading asks for
+abbrev pub is : Mark → Token → Bool
+is m.By (Word w.By) = true
+is m.Generate (Word w.Generate) = true
+is m.Into (Word w.Into) = true
+is m.Not (Word w.Not) = true
+is m.Group (Group true) = true
+is m.Assign (Symbol s.Assign) = true
+is m.Open (Symbol s.Open) = true
+is m.Close (Symbol s.Close) = true
+is m.Comma (Symbol s.Comma) = true
+is m.Colon (Symbol s.Colon) = true
+is m.Semicolon (Symbol s.Semicolon) = true
+is m.Minus (Symbol s.Minus) = true
+is _ _ = false
 
 -- the operator of this level that the token is
 abbrev pub operator : Level → Token → Option BinaryOp
@@ -35,18 +53,6 @@ combine b.And = e.And
 combine b.Add = e.Add
 combine b.Sub = e.Sub
 combine b.Mul = e.Mul
-
-abbrev pub is_not : Token → Bool
-is_not (Word w.Not) = true
-is_not _ = false
-
-abbrev pub is_minus : Token → Bool
-is_minus (Symbol s.Minus) = true
-is_minus _ = false
-
-abbrev pub is_open : Token → Bool
-is_open (Symbol s.Open) = true
-is_open _ = false
 
 -- the name of the field that a grouped alias has
 abbrev pub group_word : List ℕ

@@ -1,5 +1,5 @@
 -- The reading of statements from the left.
-use Rattle.std.specs.Prelude.{◌≡◌, ℕ, zero, suc, Bool, true, false, List, [], ◌∷◌, ◌++◌, length, Option, Some, None, Result, Ok, Err}
+use Rattle.std.specs.Prelude.{◌≡◌, ℕ, zero, suc, List, [], ◌∷◌, ◌++◌, length, Option, Some, None, Result, Ok, Err}
 use Rattle.nova_value.specs.declared.value.Kind.{Kind}
 use Rattle.nova_pig_tree.specs.declared.expression.Field.{Field}
 use Rattle.nova_pig_tree.specs.declared.statement.Item.{Item}
@@ -12,11 +12,13 @@ use Rattle.nova_pig_tree.specs.declared.token.Token.{Token}
 use Rattle.nova_pig_tree.specs.declared.token.Token.TheVariants.{Ident, Word, Group, Literal, Symbol}
 use Rattle.nova_pig_tree.specs.declared.token.Word.TheVariants as w
 use Rattle.nova_pig_tree.specs.declared.token.Symbol.TheVariants as s
+use Rattle.nova_pig_grammar.specs.declared.operators.Mark.{Mark}
+use Rattle.nova_pig_grammar.specs.declared.operators.Mark.TheVariants as m
 use Rattle.nova_pig_grammar.specs.declared.fault.Fault.{Fault}
 use Rattle.nova_pig_grammar.specs.declared.fault.Fault.TheVariants.{Syntax, NoMemory}
 use Rattle.nova_pig_grammar.specs.Expression.{whole}
 use Rattle.nova_pig_grammar.specs.Statement.{kind_of}
-use Rattle.nova_pig_grammar.specs.ExpressionReading.{Reading, Reader, and_then, ◌>>=◌, pure, read, At, closed, field_at}
+use Rattle.nova_pig_grammar.specs.ExpressionReading.{Reading, Reader, and_then, ◌>>=◌, pure, read, At, expected, followed, closed, field_at}
 
 -- one or more, with commas between; no more than so many after the first
 module _ {A : Type 0} (one : Reader A) where
@@ -60,8 +62,7 @@ label_at (Word w.As ∷ ts) = None
 label_at ts = Some ((None, None), ts)
 
 abbrev pub flatten_at : Reader Item
-flatten_at (Symbol s.Open ∷ Group true ∷ Symbol s.Close ∷ ts) = Some (item.Flatten, ts)
-flatten_at _ = None
+flatten_at = expected m.Open >>= (λ _. expected m.Group >>= (λ _. closed item.Flatten))
 
 abbrev pub value_at : Reader Item
 value_at = read (At whole) >>= (λ x. label_at >>= (λ l. pure (item.Value x l.0 l.1)))
@@ -71,34 +72,25 @@ item_at (Symbol s.Star ∷ ts) = Some (item.All, ts)
 item_at (Word w.Flatten ∷ ts) = flatten_at ts
 item_at ts = value_at ts
 
--- `ident BY` and `ident GENERATE`
-abbrev pub by_at : Reader (List ℕ)
-by_at (Ident a ∷ Word w.By ∷ ts) = Some (a, ts)
-by_at _ = None
-
-abbrev pub generate_at : Reader (List ℕ)
-generate_at (Ident a ∷ Word w.Generate ∷ ts) = Some (a, ts)
-generate_at _ = None
-
-abbrev pub comma_at : {A : Type 0} → A → Reader A
-comma_at a (Symbol s.Comma ∷ ts) = Some (a, ts)
-comma_at a _ = None
+-- `ident BY`, `ident GENERATE` and `ident INTO`
+abbrev pub name_then : Mark → Reader (List ℕ)
+name_then mark = name_at >>= followed mark
 
 abbrev pub text_at : Reader (List ℕ)
 text_at (Literal c ∷ ts) = Some (c, ts)
 text_at _ = None
 
 abbrev pub filter_at : Reader Op
-filter_at = by_at >>= (λ a. read (At whole) >>= (λ x. pure (op.Filter a x)))
+filter_at = name_then m.By >>= (λ a. read (At whole) >>= (λ x. pure (op.Filter a x)))
 
 abbrev pub foreach_at : Reader Op
-foreach_at = generate_at >>= (λ a. listed item_at >>= (λ is. pure (op.Foreach a is)))
+foreach_at = name_then m.Generate >>= (λ a. listed item_at >>= (λ is. pure (op.Foreach a is)))
 
 abbrev pub group_at : Reader Op
-group_at = by_at >>= (λ a. columns_at >>= (λ fs. pure (op.Group a fs)))
+group_at = name_then m.By >>= (λ a. columns_at >>= (λ fs. pure (op.Group a fs)))
 
 abbrev pub join_at : Reader Op
-join_at = by_at >>= (λ a. columns_at >>= (λ fs. comma_at fs >>= (λ fs. by_at >>= (λ b. columns_at >>= (λ gs. pure (op.Join a fs b gs))))))
+join_at = name_then m.By >>= (λ a. columns_at >>= (λ fs. followed m.Comma fs >>= (λ fs. name_then m.By >>= (λ b. columns_at >>= (λ gs. pure (op.Join a fs b gs))))))
 
 abbrev pub two : List (List ℕ) → Reader Op
 two (a ∷ b ∷ cs) ts = Some (op.Union (a ∷ b ∷ cs), ts)
@@ -118,16 +110,13 @@ op_at (Word w.Distinct ∷ ts) = (name_at >>= (λ a. pure (op.Distinct a))) ts
 op_at _ = None
 
 abbrev pub ended : {A : Type 0} → A → Reader A
-ended a (Symbol s.Semicolon ∷ ts) = Some (a, ts)
-ended a _ = None
+ended = followed m.Semicolon
 
 abbrev pub define_at : List ℕ → Reader Body
-define_at a (Symbol s.Assign ∷ ts) = (op_at >>= (λ o. ended (body.Define a o))) ts
-define_at a _ = None
+define_at a = expected m.Assign >>= (λ _. op_at >>= (λ o. ended (body.Define a o)))
 
 abbrev pub store_at : Reader Body
-store_at (Ident a ∷ Word w.Into ∷ Literal c ∷ ts) = ended (body.Store a c) ts
-store_at _ = None
+store_at = name_then m.Into >>= (λ a. text_at >>= (λ c. ended (body.Store a c)))
 
 abbrev pub cut_at : Reader Body
 cut_at (Ident a ∷ ts) = define_at a ts
@@ -141,18 +130,6 @@ all_of _ = None
 -- the statement that a whole cut is
 abbrev pub body_of : List Token → Option Body
 body_of cut = all_of (cut_at cut)
-
-abbrev pub is_comma : Token → Bool
-is_comma (Symbol s.Comma) = true
-is_comma _ = false
-
-abbrev pub begins_comma : List Token → Bool
-begins_comma [] = false
-begins_comma (t ∷ ts) = is_comma t
-
-abbrev pub NextComma : Bool → List Token → List Token → Type 0
-NextComma true old new = old ≡ Symbol s.Comma ∷ new
-NextComma false old new = (new ≡ old) × (begins_comma old ≡ false)
 
 abbrev pub IsBodyOf : List Token → Result Body Fault → Type 0
 IsBodyOf cut (Ok b) = body_of cut ≡ Some b

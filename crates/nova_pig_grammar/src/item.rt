@@ -6,6 +6,7 @@ ghost use Rattle.nova_pig_grammar.specs.StatementReading as spec;
 ghost use Rattle.nova_pig_grammar.specs.Statement as grammar;
 
 use crate::fault::Fault;
+use crate::operators::Mark;
 use crate::parser::Parser;
 use nova_pig_tree::{Field, Item, Kind, Str, Symbol, Token, Word};
 use sqlite_items::Items;
@@ -74,15 +75,9 @@ fn label_at(alloc: Global, parser: &mut Parser<'_>) -> Result<(Option<Str>, Opti
 fn flatten_at(parser: &mut Parser<'_>) -> Result<Item, Fault>
     ensures { Answers (spec.flatten_at parser.old) result parser.new }
 {
-    let Some(Token::Symbol(Symbol::Open)) = parser.take() else {
-        return Err(Fault::Syntax);
-    };
-    let Some(Token::Group(true)) = parser.take() else {
-        return Err(Fault::Syntax);
-    };
-    let Some(Token::Symbol(Symbol::Close)) = parser.take() else {
-        return Err(Fault::Syntax);
-    };
+    parser.expect(Mark::Open)?;
+    parser.expect(Mark::Group)?;
+    parser.expect(Mark::Close)?;
     Ok(Item::Flatten)
 }
 
@@ -116,25 +111,13 @@ fn item_at(alloc: Global, parser: &mut Parser<'_>) -> Result<Item, Fault>
     }
 }
 
-/// Takes a comma, if one is next.
-fn eat_comma(parser: &mut Parser<'_>) -> bool
-    ensures { spec.NextComma result parser.old parser.new }
-{
-    if let Some(Token::Symbol(Symbol::Comma)) = parser.peek() {
-        parser.take();
-        true
-    } else {
-        false
-    }
-}
-
 /// Items with commas between.
 pub fn items_at(alloc: Global, parser: &mut Parser<'_>) -> Result<Items<Item>, Fault>
     ensures { Answers (spec.listed spec.item_at parser.old) result parser.new }
 {
     let mut out = Items::new(alloc);
     out.push(item_at(alloc, parser)?)?;
-    while eat_comma(parser) {
+    while parser.eat(Mark::Comma) {
         out.push(item_at(alloc, parser)?)?;
     }
     Ok(out)
@@ -146,7 +129,7 @@ fn fields_at(alloc: Global, parser: &mut Parser<'_>) -> Result<Items<Field>, Fau
 {
     let mut out = Items::new(alloc);
     out.push(parser.field(alloc)?)?;
-    while eat_comma(parser) {
+    while parser.eat(Mark::Comma) {
         out.push(parser.field(alloc)?)?;
     }
     Ok(out)
@@ -163,9 +146,7 @@ pub fn columns_at(alloc: Global, parser: &mut Parser<'_>) -> Result<Items<Field>
     };
     parser.take();
     let fields = fields_at(alloc, parser)?;
-    let Some(Token::Symbol(Symbol::Close)) = parser.take() else {
-        return Err(Fault::Syntax);
-    };
+    parser.expect(Mark::Close)?;
     Ok(fields)
 }
 
@@ -175,7 +156,7 @@ pub fn names_at(alloc: Global, parser: &mut Parser<'_>) -> Result<Items<Str>, Fa
 {
     let mut out = Items::new(alloc);
     out.push(name_at(alloc, parser)?)?;
-    while eat_comma(parser) {
+    while parser.eat(Mark::Comma) {
         out.push(name_at(alloc, parser)?)?;
     }
     Ok(out)

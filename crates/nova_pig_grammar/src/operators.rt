@@ -24,6 +24,44 @@ pub enum BinaryOp {
     Mul,
 }
 
+/// A token that reading asks for: a keyword, `group` as a field, or a symbol.
+#[derive(Clone, Copy, Debug, PartialEq, Eq)]
+pub enum Mark {
+    By,
+    Generate,
+    Into,
+    Not,
+    Group,
+    Assign,
+    Open,
+    Close,
+    Comma,
+    Colon,
+    Semicolon,
+    Minus,
+}
+
+/// Whether the token is this one.
+pub fn is(mark: Mark, token: &Token) -> bool
+    ensures { result ≡ spec.is mark token.now }
+{
+    match (mark, token) {
+        (Mark::By, Token::Word(Word::By)) => true,
+        (Mark::Generate, Token::Word(Word::Generate)) => true,
+        (Mark::Into, Token::Word(Word::Into)) => true,
+        (Mark::Not, Token::Word(Word::Not)) => true,
+        (Mark::Group, Token::Group(true)) => true,
+        (Mark::Assign, Token::Symbol(Symbol::Assign)) => true,
+        (Mark::Open, Token::Symbol(Symbol::Open)) => true,
+        (Mark::Close, Token::Symbol(Symbol::Close)) => true,
+        (Mark::Comma, Token::Symbol(Symbol::Comma)) => true,
+        (Mark::Colon, Token::Symbol(Symbol::Colon)) => true,
+        (Mark::Semicolon, Token::Symbol(Symbol::Semicolon)) => true,
+        (Mark::Minus, Token::Symbol(Symbol::Minus)) => true,
+        _ => false,
+    }
+}
+
 /// The operator of this level that the token is.
 pub fn operator(level: Level, token: &Token) -> Option<BinaryOp>
     ensures { result ≡ spec.operator level token.now }
@@ -46,27 +84,6 @@ pub fn comparison(token: &Token) -> Option<CompareOp>
         Token::Symbol(Symbol::Compare(op)) => Some(*op),
         _ => None,
     }
-}
-
-/// Whether the token is `NOT`.
-pub fn is_not(token: &Token) -> bool
-    ensures { result ≡ spec.is_not token.now }
-{
-    matches!(token, Token::Word(Word::Not))
-}
-
-/// Whether the token is `-`.
-pub fn is_minus(token: &Token) -> bool
-    ensures { result ≡ spec.is_minus token.now }
-{
-    matches!(token, Token::Symbol(Symbol::Minus))
-}
-
-/// Whether the token is `(`.
-pub fn is_open(token: &Token) -> bool
-    ensures { result ≡ spec.is_open token.now }
-{
-    matches!(token, Token::Symbol(Symbol::Open))
 }
 
 /// The call that begins with the name: `COUNT`, `SUM`, `MIN` or `MAX`, as they stand.

@@ -3,13 +3,11 @@
 ghost use Rattle.std.specs.Prelude.{◌≡◌, ◌<◌, ◌↔◌, [], ◌∷◌, List, length, map, MatchOption, IsTrue, OnOk, IfOk};
 ghost use Rattle.nova_pig_grammar.specs.Operators as spec;
 ghost use Rattle.nova_pig_tree.specs.declared.token.Token.{Token};
-ghost use Rattle.nova_pig_grammar.specs.ExpressionReading.{Answers, Next, NextNot, NextMinus, NextComparison, NextOpen, NextMark, NextColon, NextClose, read, opened, named, single, field_after, group_after, field_at, call_field, call_after, At};
+ghost use Rattle.nova_pig_grammar.specs.ExpressionReading.{Answers, Eats, Decides, Next, NextComparison, NextMark, expected, read, opened, named, single, field_after, group_after, field_at, call_field, call_after, At};
 ghost use Rattle.nova_pig_grammar.specs.Expression.{Left, Neg, Comp, Unary, Primary, operand, whole};
 
 use crate::fault::Fault;
-use crate::operators::{
-    BinaryOp, Level, call_kind, comparison, is_minus, is_not, is_open, operator,
-};
+use crate::operators::{BinaryOp, Level, Mark, call_kind, comparison, is, operator};
 use nova_pig_tree::{CallKind, CompareOp, Expr, Field, Placed, Str, Symbol, Token};
 use sqlite_items::Boxed;
 use std::alloc::{AllocError, Global};
@@ -86,6 +84,35 @@ impl<'a> Parser<'a> {
         Some(&first.token)
     }
 
+    /// Takes this token, if it is next.
+    pub fn eat(&mut self, mark: Mark) -> bool
+        ensures token { Eats mark result self.old self.new }
+        // What reading goes on with, where the token decides it.
+        ensures reading { Decides mark result self.old self.new }
+    {
+        let Some((first, rest)) = self.tokens.split_first() else {
+            return false;
+        };
+        if is(mark, &first.token) {
+            self.tokens = rest;
+            true
+        } else {
+            false
+        }
+    }
+
+    /// Takes this token, which is next.
+    pub fn expect(&mut self, mark: Mark) -> Result<(), Fault>
+        ensures reading { Answers (expected mark self.old) result self.new }
+        ensures shorter { OnOk result (length self.new < length self.old) }
+    {
+        if self.eat(mark) {
+            Ok(())
+        } else {
+            Err(Fault::Syntax)
+        }
+    }
+
     /// Takes an expression, the longest that the tokens begin with.
     pub fn whole(&mut self, alloc: Global) -> Result<Boxed<Expr>, Fault>
         ensures { Answers (read (At whole) self.old) result self.new }
@@ -109,36 +136,6 @@ impl<'a> Parser<'a> {
         }
     }
 
-    /// Takes a `NOT`, if one is next.
-    fn eat_not(&mut self) -> bool
-        ensures { NextNot result self.old self.new }
-    {
-        let Some((first, rest)) = self.tokens.split_first() else {
-            return false;
-        };
-        if is_not(&first.token) {
-            self.tokens = rest;
-            true
-        } else {
-            false
-        }
-    }
-
-    /// Takes a `-`, if one is next.
-    fn eat_minus(&mut self) -> bool
-        ensures { NextMinus result self.old self.new }
-    {
-        let Some((first, rest)) = self.tokens.split_first() else {
-            return false;
-        };
-        if is_minus(&first.token) {
-            self.tokens = rest;
-            true
-        } else {
-            false
-        }
-    }
-
     /// Takes a comparison, if one is next.
     fn comparison(&mut self) -> Option<CompareOp>
         ensures { NextComparison result self.old self.new }
@@ -152,21 +149,6 @@ impl<'a> Parser<'a> {
                 Some(op)
             }
             None => None,
-        }
-    }
-
-    /// Takes a `(`, if one is next.
-    fn eat_open(&mut self) -> bool
-        ensures { NextOpen result self.old self.new }
-    {
-        let Some((first, rest)) = self.tokens.split_first() else {
-            return false;
-        };
-        if is_open(&first.token) {
-            self.tokens = rest;
-            true
-        } else {
-            false
         }
     }
 
@@ -218,7 +200,7 @@ impl<'a> Parser<'a> {
         let alias = name.copy(alloc)?;
         self.tokens = rest;
         let field = self.call_field(alloc)?;
-        self.close()?;
+        self.expect(Mark::Close)?;
         Ok(Expr::Call { kind, alias, field })
     }
 
@@ -337,7 +319,7 @@ impl<'a> Parser<'a> {
         ensures reading { Answers (read (At Neg) self.old) result self.new }
         ensures shorter { OnOk result (length self.new < length self.old) }
     {
-        if !self.eat_not() {
+        if !self.eat(Mark::Not) {
             return self.comp(alloc);
         }
         let inner = self.neg(alloc)?;
@@ -364,7 +346,7 @@ impl<'a> Parser<'a> {
         ensures reading { Answers (read (At Unary) self.old) result self.new }
         ensures shorter { OnOk result (length self.new < length self.old) }
     {
-        if !self.eat_minus() {
+        if !self.eat(Mark::Minus) {
             return self.primary(alloc);
         }
         let inner = self.unary(alloc)?;
@@ -377,7 +359,7 @@ impl<'a> Parser<'a> {
         ensures reading { Answers (read (At Primary) self.old) result self.new }
         ensures shorter { OnOk result (length self.new < length self.old) }
     {
-        if !self.eat_open() {
+        if !self.eat(Mark::Open) {
             return Ok(Boxed::new(alloc, self.single(alloc)?)?);
         }
         let first = self.left(alloc, Level::Or)?;
@@ -394,9 +376,9 @@ impl<'a> Parser<'a> {
             return Ok(cond);
         }
         let a = self.left(alloc, Level::Or)?;
-        self.colon()?;
+        self.expect(Mark::Colon)?;
         let b = self.left(alloc, Level::Or)?;
-        self.close()?;
+        self.expect(Mark::Close)?;
         Ok(Boxed::new(alloc, Expr::If { cond, a, b })?)
     }
 
@@ -415,38 +397,6 @@ impl<'a> Parser<'a> {
             Token::Symbol(Symbol::Question) => {
                 self.tokens = rest;
                 Ok(true)
-            }
-            _ => Err(Fault::Syntax),
-        }
-    }
-
-    /// Takes the `:` between the two values of a choice.
-    fn colon(&mut self) -> Result<(), Fault>
-        ensures { NextColon result self.old self.new }
-    {
-        let Some((first, rest)) = self.tokens.split_first() else {
-            return Err(Fault::Syntax);
-        };
-        match &first.token {
-            Token::Symbol(Symbol::Colon) => {
-                self.tokens = rest;
-                Ok(())
-            }
-            _ => Err(Fault::Syntax),
-        }
-    }
-
-    /// Takes a `)`.
-    fn close(&mut self) -> Result<(), Fault>
-        ensures { NextClose result self.old self.new }
-    {
-        let Some((first, rest)) = self.tokens.split_first() else {
-            return Err(Fault::Syntax);
-        };
-        match &first.token {
-            Token::Symbol(Symbol::Close) => {
-                self.tokens = rest;
-                Ok(())
             }
             _ => Err(Fault::Syntax),
         }

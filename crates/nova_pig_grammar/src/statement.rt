@@ -8,41 +8,25 @@ ghost use Rattle.nova_pig_tree.specs.declared.statement.Body.{Body};
 
 use crate::fault::Fault;
 use crate::item::{columns_at, items_at, name_at, names_at};
+use crate::operators::Mark;
 use crate::parser::Parser;
-use nova_pig_tree::{Body, Op, Placed, Str, Symbol, Token, Word};
+use nova_pig_tree::{Body, Op, Placed, Str, Token, Word};
 use std::alloc::Global;
 
-/// `ident BY`.
-fn by_at(alloc: Global, parser: &mut Parser<'_>) -> Result<Str, Fault>
-    ensures { Answers (spec.by_at parser.old) result parser.new }
+/// A name, and this token after it.
+fn name_then(alloc: Global, parser: &mut Parser<'_>, mark: Mark) -> Result<Str, Fault>
+    ensures { Answers (spec.name_then mark parser.old) result parser.new }
 {
-    let Some(Token::Ident(name)) = parser.take() else {
-        return Err(Fault::Syntax);
-    };
-    let Some(Token::Word(Word::By)) = parser.take() else {
-        return Err(Fault::Syntax);
-    };
-    Ok(name.copy(alloc)?)
-}
-
-/// `ident GENERATE`.
-fn generate_at(alloc: Global, parser: &mut Parser<'_>) -> Result<Str, Fault>
-    ensures { Answers (spec.generate_at parser.old) result parser.new }
-{
-    let Some(Token::Ident(name)) = parser.take() else {
-        return Err(Fault::Syntax);
-    };
-    let Some(Token::Word(Word::Generate)) = parser.take() else {
-        return Err(Fault::Syntax);
-    };
-    Ok(name.copy(alloc)?)
+    let name = name_at(alloc, parser)?;
+    parser.expect(mark)?;
+    Ok(name)
 }
 
 /// What follows FILTER.
 fn filter_at(alloc: Global, parser: &mut Parser<'_>) -> Result<Op, Fault>
     ensures { Answers (spec.filter_at parser.old) result parser.new }
 {
-    let from = by_at(alloc, parser)?;
+    let from = name_then(alloc, parser, Mark::By)?;
     let cond = parser.whole(alloc)?;
     Ok(Op::Filter {
         from,
@@ -54,7 +38,7 @@ fn filter_at(alloc: Global, parser: &mut Parser<'_>) -> Result<Op, Fault>
 fn foreach_at(alloc: Global, parser: &mut Parser<'_>) -> Result<Op, Fault>
     ensures { Answers (spec.foreach_at parser.old) result parser.new }
 {
-    let from = generate_at(alloc, parser)?;
+    let from = name_then(alloc, parser, Mark::Generate)?;
     let items = items_at(alloc, parser)?;
     Ok(Op::Foreach { from, items })
 }
@@ -63,7 +47,7 @@ fn foreach_at(alloc: Global, parser: &mut Parser<'_>) -> Result<Op, Fault>
 fn group_at(alloc: Global, parser: &mut Parser<'_>) -> Result<Op, Fault>
     ensures { Answers (spec.group_at parser.old) result parser.new }
 {
-    let from = by_at(alloc, parser)?;
+    let from = name_then(alloc, parser, Mark::By)?;
     let by = columns_at(alloc, parser)?;
     Ok(Op::Group { from, by })
 }
@@ -72,12 +56,10 @@ fn group_at(alloc: Global, parser: &mut Parser<'_>) -> Result<Op, Fault>
 fn join_at(alloc: Global, parser: &mut Parser<'_>) -> Result<Op, Fault>
     ensures { Answers (spec.join_at parser.old) result parser.new }
 {
-    let left = by_at(alloc, parser)?;
+    let left = name_then(alloc, parser, Mark::By)?;
     let left_by = columns_at(alloc, parser)?;
-    let Some(Token::Symbol(Symbol::Comma)) = parser.take() else {
-        return Err(Fault::Syntax);
-    };
-    let right = by_at(alloc, parser)?;
+    parser.expect(Mark::Comma)?;
+    let right = name_then(alloc, parser, Mark::By)?;
     let right_by = columns_at(alloc, parser)?;
     Ok(Op::Join {
         left,
@@ -98,8 +80,8 @@ fn union_at(alloc: Global, parser: &mut Parser<'_>) -> Result<Op, Fault>
     Ok(Op::Union { arms })
 }
 
-/// What follows LOAD.
-fn load_at(alloc: Global, parser: &mut Parser<'_>) -> Result<Str, Fault>
+/// A literal.
+fn text_at(alloc: Global, parser: &mut Parser<'_>) -> Result<Str, Fault>
     ensures { Answers (spec.text_at parser.old) result parser.new }
 {
     let Some(Token::Literal(text)) = parser.take() else {
@@ -114,7 +96,7 @@ fn op_at(alloc: Global, parser: &mut Parser<'_>) -> Result<Op, Fault>
 {
     match parser.take() {
         Some(Token::Word(Word::Load)) => Ok(Op::Load {
-            channel: load_at(alloc, parser)?,
+            channel: text_at(alloc, parser)?,
         }),
         Some(Token::Word(Word::Filter)) => filter_at(alloc, parser),
         Some(Token::Word(Word::Foreach)) => foreach_at(alloc, parser),
@@ -132,9 +114,7 @@ fn op_at(alloc: Global, parser: &mut Parser<'_>) -> Result<Op, Fault>
 fn ended(parser: &mut Parser<'_>, body: Body) -> Result<Body, Fault>
     ensures { Answers (spec.ended body parser.old) result parser.new }
 {
-    let Some(Token::Symbol(Symbol::Semicolon)) = parser.take() else {
-        return Err(Fault::Syntax);
-    };
+    parser.expect(Mark::Semicolon)?;
     Ok(body)
 }
 
@@ -142,9 +122,7 @@ fn ended(parser: &mut Parser<'_>, body: Body) -> Result<Body, Fault>
 fn define_at(alloc: Global, parser: &mut Parser<'_>, alias: Str) -> Result<Body, Fault>
     ensures { Answers (spec.define_at alias parser.old) result parser.new }
 {
-    let Some(Token::Symbol(Symbol::Assign)) = parser.take() else {
-        return Err(Fault::Syntax);
-    };
+    parser.expect(Mark::Assign)?;
     let op = op_at(alloc, parser)?;
     ended(parser, Body::Define { alias, op })
 }
@@ -153,17 +131,8 @@ fn define_at(alloc: Global, parser: &mut Parser<'_>, alias: Str) -> Result<Body,
 fn store_at(alloc: Global, parser: &mut Parser<'_>) -> Result<Body, Fault>
     ensures { Answers (spec.store_at parser.old) result parser.new }
 {
-    let Some(Token::Ident(alias)) = parser.take() else {
-        return Err(Fault::Syntax);
-    };
-    let Some(Token::Word(Word::Into)) = parser.take() else {
-        return Err(Fault::Syntax);
-    };
-    let Some(Token::Literal(channel)) = parser.take() else {
-        return Err(Fault::Syntax);
-    };
-    let alias = alias.copy(alloc)?;
-    let channel = channel.copy(alloc)?;
+    let alias = name_then(alloc, parser, Mark::Into)?;
+    let channel = text_at(alloc, parser)?;
     ended(parser, Body::Store { alias, channel })
 }
 

@@ -8,19 +8,19 @@ use Rattle.nova_pig_grammar.proofs.item.names_at.Goals as goal
 
 pub returns-in_err-name_at-2 : goal.returns-in_err-name_at-2
 returns-in_err-name_at-2 c =
-    let e = fault name_at name-no_longer c.loop-alloc.out c.args.parser.now c.loop-alloc.parser _ _ c.name_at-in-loop-alloc.new.parser _ c.loop-alloc.invariant c.loop-alloc-test.ensures c.in_err-name_at-2.ensures in
+    let e = fault name_at name-no_longer c.loop-alloc.out c.args.parser.now c.loop-alloc.parser _ _ c.name_at-in-loop-alloc.new.parser _ c.loop-alloc.invariant c.loop-alloc-test.ensures.reading c.in_err-name_at-2.ensures in
     first_of (search rules, grind (arith, common_steps))
 
 pub loop-alloc-preserved : goal.loop-alloc-preserved
 loop-alloc-preserved c =
-    c.loop-alloc.invariant ∙ turn name_at name-no_longer c.loop-alloc.out c.loop-alloc.parser _ _ _ c.loop-alloc-test.ensures c.in_ok-name_at-2.ensures
+    c.loop-alloc.invariant ∙ turn name_at name-no_longer c.loop-alloc.out c.loop-alloc.parser _ _ _ c.loop-alloc-test.ensures.reading c.in_ok-name_at-2.ensures
     ∙ ap (λ o. ahead o (more name_at c.name_at-in-loop-alloc.new.parser)) (sym c.in_ok-push-2.ensures.ok)
 
 pub loop-alloc-smaller : goal.loop-alloc-smaller
 loop-alloc-smaller c =
     let h = name-no_longer _ _ _ c.in_ok-name_at-2.ensures in
-    let e = ap length c.loop-alloc-test.ensures in
+    let e = ap length c.loop-alloc-test.ensures.reading in
     omega (arith, h, e)
 
 pub returns : goal.returns
-returns c = c.loop-alloc.invariant ∙ last name_at c.loop-alloc.out c.loop-alloc.parser c.loop-alloc-test.ensures.1 ∙ ap (λ ts. Some (c.loop-alloc.out, ts)) (sym c.loop-alloc-test.ensures.0)
+returns c = c.loop-alloc.invariant ∙ last name_at c.loop-alloc.out c.loop-alloc.parser c.loop-alloc-test.ensures.reading.1 ∙ ap (λ ts. Some (c.loop-alloc.out, ts)) (sym c.loop-alloc-test.ensures.reading.0)

@@ -9,4 +9,4 @@ mod limit;
 mod script;
 mod text;
 
-pub use text::{ParseFault, parse, texts_are_settled};
+pub use text::{ParseFault, parse, scripts_are_small, texts_are_settled};

@@ -4,6 +4,7 @@ ghost use Rattle.std.specs.Prelude.{◌≡◌, List, IfOk, IfErr, MatchResult};
 ghost use Rattle.nova_pig_tree.specs.declared.statement.Statement.{Statement};
 ghost use Rattle.nova_pig_parse.specs.declared.text.ParseFault.{ParseFault};
 ghost use Rattle.nova_pig_parse.specs.Script.{IsScriptOf, IsFaultOf, TextsAreSettled};
+ghost use Rattle.nova_pig_parse.specs.Size.{ScriptsAreSmall};
 ghost use Rattle.nova_pig_parse.specs.Parse as spec;
 
 use crate::limit::limit_of;
@@ -94,4 +95,10 @@ pub fn parse(alloc: Global, text: &str) -> Result<Script, ParseFault>
 /// A text is one script, or has one first fault, and not both.
 pub fn texts_are_settled()
     ensures { TextsAreSettled }
+{}
+
+/// The script of a text has at most 257 statements, and at most 64 operators in each of its
+/// expressions, so no descent into one is deep.
+pub fn scripts_are_small()
+    ensures { ScriptsAreSmall }
 {}

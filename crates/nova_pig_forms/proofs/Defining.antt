@@ -1,5 +1,5 @@
 -- What is answered of a statement is what the relations say.
-use Rattle.std.proofs.Common.{◌≡◌, ◌≢◌, ◌+◌, ◌<◌, ◌≤◌, ◌⊎◌, inl, inr, ℕ, zero, suc, Bool, true, false, ◌&&◌, if◌then◌else◌, nat_eq, nat_le, List, [], ◌∷◌, ◌++◌, length, map, Option, Some, None, Ok, Err, refl, ap, sym, ◌∙◌, subst, arith, append_assoc, append-nil}
+use Rattle.std.proofs.Common.{◌≡◌, ◌≢◌, ◌+◌, ◌<◌, ◌≤◌, ◌⊎◌, inl, inr, ℕ, suc, Bool, true, false, ◌&&◌, if◌then◌else◌, nat_eq, nat_le, List, [], ◌∷◌, ◌++◌, length, Option, Some, None, Ok, Err, refl, ap, sym, ◌∙◌, subst, arith, append_assoc, append-nil}
 use Rattle.std.specs.List.{AllByRecursion}
 use Rattle.std.proofs.lemmas.Bool.Decides.{nat_tests}
 use Rattle.nova_value.specs.Rows.{Shape, IsShape}
@@ -11,14 +11,11 @@ use Rattle.nova_pig_tree.specs.declared.expression.Expr.{Expr}
 use Rattle.nova_pig_tree.specs.declared.statement.Item.{Item}
 use Rattle.nova_pig_tree.specs.declared.statement.Op.{Op}
 use Rattle.nova_pig_tree.specs.declared.statement.Op.TheVariants as op
-use Rattle.nova_pig_algebra.specs.declared.node.PlanExpr.{PlanExpr}
 use Rattle.nova_pig_algebra.specs.declared.node.Node.{Node}
 use Rattle.nova_pig_algebra.specs.declared.node.Node.TheVariants as node
-use Rattle.nova_pig_algebra.specs.declared.node.Sort.{Sort}
-use Rattle.nova_pig_algebra.specs.declared.node.Sort.TheVariants.{Condition}
 use Rattle.nova_pig_plan.specs.declared.fault.Cause.{Cause}
 use Rattle.nova_pig_plan.specs.declared.fault.Cause.TheVariants as fault
-use Rattle.nova_pig_plan.specs.declared.scope.Col.{Col}
+use Rattle.nova_pig_plan.specs.declared.scope.ScopeColumn.{ScopeColumn}
 use Rattle.nova_pig_plan.specs.declared.scope.Scope.{Scope}
 use Rattle.nova_pig_plan.specs.declared.scope.Scope.TheVariants.{Rows, Group}
 use Rattle.nova_pig_plan.specs.declared.scope.Typed.{Typed}
@@ -28,11 +25,11 @@ use Rattle.nova_pig_plan.specs.declared.scope.Channels.{Channels}
 use Rattle.nova_pig_plan.specs.Answers.{Answer, first, if_not}
 use Rattle.nova_pig_plan.specs.Columns.{same_text, field_of}
 use Rattle.nova_pig_plan.specs.Exprs.{is_condition, expr_of}
-use Rattle.nova_pig_plan.specs.Items.{same_kind, column_at, items_of, nothing}
-use Rattle.nova_pig_plan.specs.Plans.{Aliases, find, test, some_or, none_or, fresh, known, ungrouped, defined, fields_of, columns_at, same_kinds, same_kinds_at, channel_columns, from_alias, load, filter_rows, foreach, group, join_rows, join, all_known, rows_of, none_grouped, all_alike, first_rows, union, distinct, op_of, define, store}
+use Rattle.nova_pig_plan.specs.Items.{same_kind, items_of, nothing}
+use Rattle.nova_pig_plan.specs.Plans.{Aliases, find, test, some_or, none_or, known, ungrouped, defined, fields_of, columns_at, same_kinds, same_kinds_at, channel_columns, from_alias, load, filter_rows, foreach, group, join_rows, join, all_known, row_columns, none_grouped, all_alike, first_rows, union, distinct, op_of, define, store}
 use Rattle.nova_pig_plan.specs.Sorts.{kinds}
-use Rattle.nova_pig_forms.specs.References.{Names, NameFails}
-use Rattle.nova_pig_forms.specs.Resolves.{Resolves, ExprFails, ItemsMake, ItemsFail}
+use Rattle.nova_pig_forms.specs.References.{Names}
+use Rattle.nova_pig_forms.specs.Resolves.{Resolves}
 use Rattle.nova_pig_forms.specs.Faults.{IsFirst, IsMissing, Among, IsDefined, RowsOf, IsGrouped, operands, TakesRows, FieldsName, FieldsFail, ArmsAre, first_arm, AreAlike, Makes, width, DefineFails, Stores, StoreFails, HaveSchemas}
 use Rattle.nova_pig_forms.specs.Faults as r
 use Rattle.nova_pig_forms.proofs.Refer.{same_is, self_same, not_same, is_other, Named, named_found, names_read, names_failed, named_at, column_there}
@@ -77,7 +74,7 @@ kind_decides kind.Text kind.Text = (λ e. refl, λ e. refl)
 kind_decides kind.Long kind.Text = (λ e. absurd cc, λ e. absurd cc)
 kind_decides kind.Text kind.Long = (λ e. absurd cc, λ e. absurd cc)
 
-kinds_same : (cs ds : List Col) → same_kinds cs ds ≡ true → kinds cs ≡ kinds ds
+kinds_same : (cs ds : List ScopeColumn) → same_kinds cs ds ≡ true → kinds cs ≡ kinds ds
 kinds_same [] [] e = refl
 kinds_same [] (d ∷ ds) e = absurd cc
 kinds_same (c ∷ cs) [] e = absurd cc
@@ -87,7 +84,7 @@ kinds_same (c ∷ cs) (d ∷ ds) e = step (same_kind c.kind d.kind) refl e (kind
     step true is h rest = let k = (kind_decides c.kind d.kind).0 is in let ks = rest h in λ i. k i ∷ ks i
     step false is h rest = absurd cc
 
-same_kinds_are : (cs ds : List Col) → kinds cs ≡ kinds ds → same_kinds cs ds ≡ true
+same_kinds_are : (cs ds : List ScopeColumn) → kinds cs ≡ kinds ds → same_kinds cs ds ≡ true
 same_kinds_are [] [] e = refl
 same_kinds_are [] (d ∷ ds) e = absurd cc
 same_kinds_are (c ∷ cs) [] e = absurd cc
@@ -96,26 +93,26 @@ same_kinds_are (c ∷ cs) (d ∷ ds) e =
     let ks : kinds cs ≡ kinds ds = cc in
     ap (λ b. b && same_kinds cs ds) ((kind_decides c.kind d.kind).1 k) ∙ same_kinds_are cs ds ks
 
-other_kinds : (cs ds : List Col) → kinds cs ≢ kinds ds → same_kinds cs ds ≡ false
+other_kinds : (cs ds : List ScopeColumn) → kinds cs ≢ kinds ds → same_kinds cs ds ≡ false
 other_kinds cs ds never = step (same_kinds cs ds) refl
   where
     step : (b : Bool) → same_kinds cs ds ≡ b → same_kinds cs ds ≡ false
     step true e = absurd (never (kinds_same cs ds e))
     step false e = e
 
-kinds_differ : (cs ds : List Col) → same_kinds cs ds ≡ false → kinds cs ≢ kinds ds
+kinds_differ : (cs ds : List ScopeColumn) → same_kinds cs ds ≡ false → kinds cs ≢ kinds ds
 kinds_differ cs ds e is = let same = same_kinds_are cs ds is in absurd cc
 
 -- the fields of a BY list
-abbrev Fields : List Col → List ℕ → List Field → Answer (List ℕ) → Type 0
-Fields cs before fs (Ok js) = (ks : List ℕ) × (ds : List Col) × FieldsName cs fs ks ds × (js ≡ before ++ ks)
+abbrev Fields : List ScopeColumn → List ℕ → List Field → Answer (List ℕ) → Type 0
+Fields cs before fs (Ok js) = (ks : List ℕ) × (ds : List ScopeColumn) × FieldsName cs fs ks ds × (js ≡ before ++ ks)
 Fields cs before fs (Err cause) = FieldsFail cs fs cause
 
-fields_found : (cs : List Col) (fs : List Field) (before : List ℕ) → Fields cs before fs (fields_of cs before fs)
+fields_found : (cs : List ScopeColumn) (fs : List Field) (before : List ℕ) → Fields cs before fs (fields_of cs before fs)
 fields_found cs [] before = ([], [], r.none, sym (append-nil before))
 fields_found cs (f ∷ fs) before = step (field_of cs f) (named_found cs f) (λ more. fields_found cs fs more)
   where
-    joined : (k : ℕ) (d : Col) → Names cs f k d → (a : Answer (List ℕ)) → Fields cs (before ++ k ∷ []) fs a → Fields cs before (f ∷ fs) a
+    joined : (k : ℕ) (d : ScopeColumn) → Names cs f k d → (a : Answer (List ℕ)) → Fields cs (before ++ k ∷ []) fs a → Fields cs before (f ∷ fs) a
     joined k d h (Ok js) rest = (k ∷ rest.0, d ∷ rest.1, r.more h rest.2, rest.3 ∙ append_assoc before (k ∷ []) rest.0)
     joined k d h (Err cause) rest = r.after h rest
 
@@ -123,23 +120,23 @@ fields_found cs (f ∷ fs) before = step (field_of cs f) (named_found cs f) (λ 
     step (Ok k) h rest = joined k h.0 h.1 (fields_of cs (before ++ k ∷ []) fs) (rest (before ++ k ∷ []))
     step (Err cause) h rest = r.here h
 
-fields_read : {cs : List Col} {fs : List Field} {ks : List ℕ} {ds : List Col} (before : List ℕ) → FieldsName cs fs ks ds → fields_of cs before fs ≡ Ok (before ++ ks)
+fields_read : {cs : List ScopeColumn} {fs : List Field} {ks : List ℕ} {ds : List ScopeColumn} (before : List ℕ) → FieldsName cs fs ks ds → fields_of cs before fs ≡ Ok (before ++ ks)
 fields_read before r.none = ap Ok (sym (append-nil before))
 fields_read {cs} before (r.more {f = f} {fs = fs} {k = k} {ks = ks} h rest) =
     ap (λ a. first a (λ k. fields_of cs (before ++ k ∷ []) fs)) (names_read h) ∙ fields_read (before ++ k ∷ []) rest ∙ ap Ok (append_assoc before (k ∷ []) ks)
 
-fields_failed : {cs : List Col} {fs : List Field} {cause : Cause} (before : List ℕ) → FieldsFail cs fs cause → fields_of cs before fs ≡ Err cause
+fields_failed : {cs : List ScopeColumn} {fs : List Field} {cause : Cause} (before : List ℕ) → FieldsFail cs fs cause → fields_of cs before fs ≡ Err cause
 fields_failed {cs} before (r.here {f = f} {fs = fs} h) = ap (λ a. first a (λ k. fields_of cs (before ++ k ∷ []) fs)) (names_failed h)
 fields_failed {cs} before (r.after {f = f} {fs = fs} {k = k} h rest) = ap (λ a. first a (λ k. fields_of cs (before ++ k ∷ []) fs)) (names_read h) ∙ fields_failed (before ++ k ∷ []) rest
 
-fields_columns : {cs : List Col} {fs : List Field} {ks : List ℕ} {ds : List Col} → FieldsName cs fs ks ds → columns_at cs ks ≡ ds
+fields_columns : {cs : List ScopeColumn} {fs : List Field} {ks : List ℕ} {ds : List ScopeColumn} → FieldsName cs fs ks ds → columns_at cs ks ≡ ds
 fields_columns r.none = refl
 fields_columns {cs} (r.more {k = k} {ks = ks} {d = d} {ds = ds} h rest) = let a = column_there cs k d (named_at h) in let b = fields_columns rest in λ i. a i ∷ b i
 
-columns_same : {cs ds us bs : List Col} {fs gs : List Field} {is js : List ℕ} → FieldsName cs fs is us → FieldsName ds gs js bs → same_kinds_at cs ds is js ≡ same_kinds us bs
+columns_same : {cs ds us bs : List ScopeColumn} {fs gs : List Field} {is js : List ℕ} → FieldsName cs fs is us → FieldsName ds gs js bs → same_kinds_at cs ds is js ≡ same_kinds us bs
 columns_same {cs} {ds} {us} {bs} {fs} {gs} {is} {js} one two = ap (λ x. same_kinds x (columns_at ds js)) (fields_columns one) ∙ ap (λ y. same_kinds us y) (fields_columns two)
 
-fields_length : {cs : List Col} {fs : List Field} {ks : List ℕ} {ds : List Col} → FieldsName cs fs ks ds → length ks ≡ length fs
+fields_length : {cs : List ScopeColumn} {fs : List Field} {ks : List ℕ} {ds : List ScopeColumn} → FieldsName cs fs ks ds → length ks ≡ length fs
 fields_length r.none = refl
 fields_length (r.more h rest) = ap suc (fields_length rest)
 
@@ -182,9 +179,9 @@ module _ (ch : Channels) (schemas : HaveSchemas ch) (done : Aliases) (narrow : N
 
   -- an alias that stands for rows, one that isn't defined, a grouped one
   data Operand (a : List ℕ) : Type 0 where
-    rows : (k : ℕ) (cs : List Col) → RowsOf done a k cs → Operand a
+    rows : (k : ℕ) (cs : List ScopeColumn) → RowsOf done a k cs → Operand a
     missing : IsMissing a done → Operand a
-    grouped : (k : ℕ) (bag : List ℕ) (by cs : List Col) → IsFirst a done k (Group bag by cs) → Operand a
+    grouped : (k : ℕ) (bag : List ℕ) (by cs : List ScopeColumn) → IsFirst a done k (Group bag by cs) → Operand a
 
   operand : (a : List ℕ) → Operand a
   operand a = step (find a 0 done) (entry_found a done 0)
@@ -200,12 +197,12 @@ module _ (ch : Channels) (schemas : HaveSchemas ch) (done : Aliases) (narrow : N
   narrow_at : {a : List ℕ} {k : ℕ} {s : Scope} → IsFirst a done k s → width s ≤ 64
   narrow_at h = entry_all (λ s. width s ≤ 64) h narrow
 
-  rows_narrow : {a : List ℕ} {k : ℕ} {cs : List Col} → RowsOf done a k cs → (d : Defined) → Ok d ≡ if_not fault.TooWide (nat_le (length cs) 64) d
+  rows_narrow : {a : List ℕ} {k : ℕ} {cs : List ScopeColumn} → RowsOf done a k cs → (d : Defined) → Ok d ≡ if_not fault.TooWide (nat_le (length cs) 64) d
   rows_narrow {a} {k} {cs} h d = sym (ap (λ b. if_not fault.TooWide b d) (fits (length cs) (narrow_at h)))
 
   -- arms of a UNION
   data Arms (arms : List (List ℕ)) : Type 0 where
-    rows : (ks : List ℕ) (css : List (List Col)) → ArmsAre done arms ks css → Arms arms
+    rows : (ks : List ℕ) (css : List (List ScopeColumn)) → ArmsAre done arms ks css → Arms arms
     missing : Among (λ a. IsMissing a done) arms → Arms arms
     grouped : AllByRecursion (IsDefined done) arms → Among (IsGrouped done) arms → Arms arms
 
@@ -213,7 +210,7 @@ module _ (ch : Channels) (schemas : HaveSchemas ch) (done : Aliases) (narrow : N
   arms_are [] = rows [] [] r.none
   arms_are (a ∷ us) = step (operand a) (arms_are us)
     where
-      defined_all : {ks : List ℕ} {css : List (List Col)} {arms : List (List ℕ)} → ArmsAre done arms ks css → AllByRecursion (IsDefined done) arms
+      defined_all : {ks : List ℕ} {css : List (List ScopeColumn)} {arms : List (List ℕ)} → ArmsAre done arms ks css → AllByRecursion (IsDefined done) arms
       defined_all r.none = tt
       defined_all (r.more {k = k} {cs = cs} h rest) = ((k, Rows cs, h), defined_all rest)
 
@@ -226,7 +223,7 @@ module _ (ch : Channels) (schemas : HaveSchemas ch) (done : Aliases) (narrow : N
       step (grouped k bag by cs h) (missing g) = missing (r.after g)
       step (grouped k bag by cs h) (grouped all g) = grouped ((k, Group bag by cs, h), all) (r.after g)
 
-  arms_known : {arms : List (List ℕ)} {ks : List ℕ} {css : List (List Col)} (before : List ℕ) → ArmsAre done arms ks css → all_known done before arms ≡ Ok (before ++ ks)
+  arms_known : {arms : List (List ℕ)} {ks : List ℕ} {css : List (List ScopeColumn)} (before : List ℕ) → ArmsAre done arms ks css → all_known done before arms ≡ Ok (before ++ ks)
   arms_known before r.none = ap Ok (sym (append-nil before))
   arms_known before (r.more {us = us} {k = k} {ks = ks} h rest) =
       ap (λ a. first a (λ k. all_known done (before ++ k.0 ∷ []) us)) (known_is h) ∙ arms_known (before ++ k ∷ []) rest ∙ ap Ok (append_assoc before (k ∷ []) ks)
@@ -249,13 +246,13 @@ module _ (ch : Channels) (schemas : HaveSchemas ch) (done : Aliases) (narrow : N
       step (missing g) rest = ap (λ x. first x (λ k. all_known done (before ++ k.0 ∷ []) us)) (known_missing a g)
       step (grouped k bag by cs g) rest = on_first g rest
 
-  rows_is : {a : List ℕ} {k : ℕ} {cs : List Col} → RowsOf done a k cs → rows_of done a ≡ Ok cs
+  rows_is : {a : List ℕ} {k : ℕ} {cs : List ScopeColumn} → RowsOf done a k cs → row_columns done a ≡ Ok cs
   rows_is h = ap (λ x. first x (λ k. ungrouped k.1)) (known_is h)
 
-  rows_grouped : {a : List ℕ} → IsGrouped done a → rows_of done a ≡ Err fault.BagMisused
+  rows_grouped : {a : List ℕ} → IsGrouped done a → row_columns done a ≡ Err fault.BagMisused
   rows_grouped g = ap (λ x. first x (λ k. ungrouped k.1)) (known_is g.4)
 
-  arms_rows : {arms : List (List ℕ)} {ks : List ℕ} {css : List (List Col)} → ArmsAre done arms ks css → none_grouped done arms ≡ Ok tt
+  arms_rows : {arms : List (List ℕ)} {ks : List ℕ} {css : List (List ScopeColumn)} → ArmsAre done arms ks css → none_grouped done arms ≡ Ok tt
   arms_rows r.none = refl
   arms_rows (r.more {us = us} h rest) = ap (λ x. first x (λ cs. none_grouped done us)) (rows_is h) ∙ arms_rows rest
 
@@ -267,26 +264,26 @@ module _ (ch : Channels) (schemas : HaveSchemas ch) (done : Aliases) (narrow : N
       step k (Rows cs) h rest = ap (λ x. first x (λ cs. none_grouped done us)) (rows_is h) ∙ rest
       step k (Group bag by cs) h rest = ap (λ x. first x (λ cs. none_grouped done us)) (rows_grouped (k, bag, by, cs, h))
 
-  arms_first : {arms : List (List ℕ)} {ks : List ℕ} {css : List (List Col)} → ArmsAre done arms ks css → first_rows done arms ≡ Ok (first_arm css)
+  arms_first : {arms : List (List ℕ)} {ks : List ℕ} {css : List (List ScopeColumn)} → ArmsAre done arms ks css → first_rows done arms ≡ Ok (first_arm css)
   arms_first r.none = refl
   arms_first (r.more h rest) = rows_is h
 
-  first_narrow : {arms : List (List ℕ)} {ks : List ℕ} {css : List (List Col)} → ArmsAre done arms ks css → length (first_arm css) ≤ 64
+  first_narrow : {arms : List (List ℕ)} {ks : List ℕ} {css : List (List ScopeColumn)} → ArmsAre done arms ks css → length (first_arm css) ≤ 64
   first_narrow r.none = omega arith
   first_narrow (r.more h rest) = narrow_at h
 
-  abbrev Alike : List Col → List (List Col) → Type 0
+  abbrev Alike : List ScopeColumn → List (List ScopeColumn) → Type 0
   Alike bs css = AllByRecursion (λ cs. kinds bs ≡ kinds cs) css
 
-  abbrev alike_after : List Col → List (List ℕ) → List Col → Answer (Unit {0})
+  abbrev alike_after : List ScopeColumn → List (List ℕ) → List ScopeColumn → Answer (Unit {0})
   alike_after bs us ds = first (test fault.SchemaDiffers (same_kinds bs ds)) (λ _. all_alike done bs us)
 
-  alike_is : (bs : List Col) {arms : List (List ℕ)} {ks : List ℕ} {css : List (List Col)} → ArmsAre done arms ks css → Alike bs css → all_alike done bs arms ≡ Ok tt
+  alike_is : (bs : List ScopeColumn) {arms : List (List ℕ)} {ks : List ℕ} {css : List (List ScopeColumn)} → ArmsAre done arms ks css → Alike bs css → all_alike done bs arms ≡ Ok tt
   alike_is bs r.none all = refl
   alike_is bs (r.more {us = us} {cs = cs} h rest) all =
       ap (λ x. first x (alike_after bs us)) (rows_is h) ∙ ap (λ b. first (test fault.SchemaDiffers b) (λ _. all_alike done bs us)) (same_kinds_are bs cs all.0) ∙ alike_is bs rest all.1
 
-  unlike_is : (bs : List Col) {arms : List (List ℕ)} {ks : List ℕ} {css : List (List Col)} → ArmsAre done arms ks css → (Alike bs css → ⊥) → all_alike done bs arms ≡ Err fault.SchemaDiffers
+  unlike_is : (bs : List ScopeColumn) {arms : List (List ℕ)} {ks : List ℕ} {css : List (List ScopeColumn)} → ArmsAre done arms ks css → (Alike bs css → ⊥) → all_alike done bs arms ≡ Err fault.SchemaDiffers
   unlike_is bs r.none never = absurd (never tt)
   unlike_is bs (r.more {us = us} {cs = cs} {css = css} h rest) never = ap (λ x. first x (alike_after bs us)) (rows_is h) ∙ step (same_kinds bs cs) refl (λ none. unlike_is bs rest none)
     where
@@ -294,7 +291,7 @@ module _ (ch : Channels) (schemas : HaveSchemas ch) (done : Aliases) (narrow : N
       step true e more = more (λ all. never (kinds_same bs cs e, all))
       step false e more = refl
 
-  alike_or : (bs : List Col) (css : List (List Col)) → Alike bs css ⊎ (Alike bs css → ⊥)
+  alike_or : (bs : List ScopeColumn) (css : List (List ScopeColumn)) → Alike bs css ⊎ (Alike bs css → ⊥)
   alike_or bs [] = inl tt
   alike_or bs (cs ∷ css) = step (same_kinds bs cs) refl (alike_or bs css)
     where
@@ -304,7 +301,7 @@ module _ (ch : Channels) (schemas : HaveSchemas ch) (done : Aliases) (narrow : N
       step false e rest = inr (λ all. kinds_differ bs cs e all.0)
 
   -- the steps of `union`
-  abbrev union_alike : List (List ℕ) → List ℕ → List Col → Answer Defined
+  abbrev union_alike : List (List ℕ) → List ℕ → List ScopeColumn → Answer Defined
   union_alike arms ks cs = first (all_alike done cs arms) (λ _. Ok (made (node.Union ks) (Rows cs)))
 
   abbrev union_first : List (List ℕ) → List ℕ → Answer Defined
@@ -313,36 +310,36 @@ module _ (ch : Channels) (schemas : HaveSchemas ch) (done : Aliases) (narrow : N
   abbrev union_rows : List (List ℕ) → List ℕ → Answer Defined
   union_rows arms ks = first (none_grouped done arms) (λ _. union_first arms ks)
 
-  union_of : {arms : List (List ℕ)} {ks : List ℕ} {css : List (List Col)} → ArmsAre done arms ks css → union done arms ≡ union_alike arms ks (first_arm css)
+  union_of : {arms : List (List ℕ)} {ks : List ℕ} {css : List (List ScopeColumn)} → ArmsAre done arms ks css → union done arms ≡ union_alike arms ks (first_arm css)
   union_of {arms} {ks} {css} h =
       ap (λ a. first a (union_rows arms)) (arms_known [] h) ∙ ap (λ a. first a (λ _. union_first arms ks)) (arms_rows h) ∙ ap (λ a. first a (union_alike arms ks)) (arms_first h)
 
   -- the steps of the other operators
-  abbrev filter_made : ℕ → List Col → Typed → Answer Defined
+  abbrev filter_made : ℕ → List ScopeColumn → Typed → Answer Defined
   filter_made k cs t = if_not fault.WrongType (is_condition t.sort) (made (node.Filter k t.expr) (Rows cs))
 
-  abbrev group_made : List ℕ → ℕ → List Col → List ℕ → Answer Defined
+  abbrev group_made : List ℕ → ℕ → List ScopeColumn → List ℕ → Answer Defined
   group_made from k cs ks = Ok (made (node.Group k ks) (Group from (columns_at cs ks) cs))
 
-  abbrev join_made : ℕ → List ℕ → List Col → List ℕ → ℕ → List ℕ → List Col → List ℕ → Answer Defined
+  abbrev join_made : ℕ → List ℕ → List ScopeColumn → List ℕ → ℕ → List ℕ → List ScopeColumn → List ℕ → Answer Defined
   join_made i left cs is j right ds js = defined (node.Join i is j js) (from_alias left cs ++ from_alias right ds)
 
-  abbrev join_kinds : ℕ → List ℕ → List Col → List ℕ → ℕ → List ℕ → List Col → List ℕ → Answer Defined
+  abbrev join_kinds : ℕ → List ℕ → List ScopeColumn → List ℕ → ℕ → List ℕ → List ScopeColumn → List ℕ → Answer Defined
   join_kinds i left cs is j right ds js = first (test fault.WrongType (same_kinds_at cs ds is js)) (λ _. join_made i left cs is j right ds js)
 
-  abbrev join_lengths : ℕ → List ℕ → List Col → List ℕ → ℕ → List ℕ → List Col → List ℕ → Answer Defined
+  abbrev join_lengths : ℕ → List ℕ → List ScopeColumn → List ℕ → ℕ → List ℕ → List ScopeColumn → List ℕ → Answer Defined
   join_lengths i left cs is j right ds js = first (test fault.SchemaDiffers (nat_eq (length is) (length js))) (λ _. join_kinds i left cs is j right ds js)
 
-  abbrev join_right : ℕ → List ℕ → List Col → ℕ → List ℕ → List Col → List Field → List ℕ → Answer Defined
+  abbrev join_right : ℕ → List ℕ → List ScopeColumn → ℕ → List ℕ → List ScopeColumn → List Field → List ℕ → Answer Defined
   join_right i left cs j right ds right_by is = first (fields_of ds [] right_by) (join_lengths i left cs is j right ds)
 
-  abbrev filter_next : Expr → (ℕ × Scope) → List Col → Answer Defined
+  abbrev filter_next : Expr → (ℕ × Scope) → List ScopeColumn → Answer Defined
   filter_next c k cs = first (expr_of (Rows cs) c) (filter_made k.0 cs)
 
-  abbrev group_next : List ℕ → List Field → (ℕ × Scope) → List Col → Answer Defined
+  abbrev group_next : List ℕ → List Field → (ℕ × Scope) → List ScopeColumn → Answer Defined
   group_next from by k cs = first (fields_of cs [] by) (group_made from k.0 cs)
 
-  abbrev distinct_next : (ℕ × Scope) → List Col → Answer Defined
+  abbrev distinct_next : (ℕ × Scope) → List ScopeColumn → Answer Defined
   distinct_next k cs = Ok (made (node.Distinct k.0) (Rows cs))
 
   abbrev foreach_made : ℕ → Made → Answer Defined
@@ -354,29 +351,29 @@ module _ (ch : Channels) (schemas : HaveSchemas ch) (done : Aliases) (narrow : N
   abbrev load_next : (ℕ × Shape) → Answer Defined
   load_next i = Ok (made (node.Load i.0) (Rows (channel_columns i.1.columns)))
 
-  on_rows : {B : Type 0} {a : List ℕ} {k : ℕ} {cs : List Col} (next : (ℕ × Scope) → List Col → Answer B) → RowsOf done a k cs
+  on_rows : {B : Type 0} {a : List ℕ} {k : ℕ} {cs : List ScopeColumn} (next : (ℕ × Scope) → List ScopeColumn → Answer B) → RowsOf done a k cs
       → first (known done a) (λ k. first (ungrouped k.1) (next k)) ≡ next (k, Rows cs) cs
   on_rows next h = ap (λ x. first x (λ k. first (ungrouped k.1) (next k))) (known_is h)
 
   on_missing : {B : Type 0} (a : List ℕ) (next : (ℕ × Scope) → Answer B) → IsMissing a done → first (known done a) next ≡ Err fault.UnknownAlias
   on_missing a next h = ap (λ x. first x next) (known_missing a h)
 
-  on_no_rows : {B : Type 0} (a : List ℕ) (next : (ℕ × Scope) → List Col → Answer B) → IsMissing a done → first (known done a) (λ k. first (ungrouped k.1) (next k)) ≡ Err fault.UnknownAlias
+  on_no_rows : {B : Type 0} (a : List ℕ) (next : (ℕ × Scope) → List ScopeColumn → Answer B) → IsMissing a done → first (known done a) (λ k. first (ungrouped k.1) (next k)) ≡ Err fault.UnknownAlias
   on_no_rows a next h = ap (λ x. first x (λ k. first (ungrouped k.1) (next k))) (known_missing a h)
 
-  on_grouped : {B : Type 0} {a : List ℕ} (next : (ℕ × Scope) → List Col → Answer B) → IsGrouped done a → first (known done a) (λ k. first (ungrouped k.1) (next k)) ≡ Err fault.BagMisused
+  on_grouped : {B : Type 0} {a : List ℕ} (next : (ℕ × Scope) → List ScopeColumn → Answer B) → IsGrouped done a → first (known done a) (λ k. first (ungrouped k.1) (next k)) ≡ Err fault.BagMisused
   on_grouped next g = ap (λ x. first x (λ k. first (ungrouped k.1) (next k))) (known_is g.4)
 
-  filter_of : {from : List ℕ} {k : ℕ} {cs : List Col} (c : Expr) → RowsOf done from k cs → filter_rows done from c ≡ first (expr_of (Rows cs) c) (filter_made k cs)
+  filter_of : {from : List ℕ} {k : ℕ} {cs : List ScopeColumn} (c : Expr) → RowsOf done from k cs → filter_rows done from c ≡ first (expr_of (Rows cs) c) (filter_made k cs)
   filter_of c h = on_rows (filter_next c) h
 
   foreach_of : {from : List ℕ} {k : ℕ} {s : Scope} (items : List Item) → IsFirst from done k s → foreach done from items ≡ first (items_of s nothing items) (foreach_made k)
   foreach_of items h = ap (λ x. first x (foreach_next items)) (known_is h)
 
-  group_of : {from : List ℕ} {k : ℕ} {cs : List Col} (by : List Field) → RowsOf done from k cs → group done from by ≡ first (fields_of cs [] by) (group_made from k cs)
+  group_of : {from : List ℕ} {k : ℕ} {cs : List ScopeColumn} (by : List Field) → RowsOf done from k cs → group done from by ≡ first (fields_of cs [] by) (group_made from k cs)
   group_of {from} by h = on_rows (group_next from by) h
 
-  distinct_of : {from : List ℕ} {k : ℕ} {cs : List Col} → RowsOf done from k cs → distinct done from ≡ Ok (made (node.Distinct k) (Rows cs))
+  distinct_of : {from : List ℕ} {k : ℕ} {cs : List ScopeColumn} → RowsOf done from k cs → distinct done from ≡ Ok (made (node.Distinct k) (Rows cs))
   distinct_of h = on_rows distinct_next h
 
   -- the steps of `join`, by what its operands are
@@ -388,7 +385,7 @@ module _ (ch : Channels) (schemas : HaveSchemas ch) (done : Aliases) (narrow : N
     join_operands {i} {j} {s} {t} g h =
         ap (λ x. first x (λ l. first (known done right) (join_scopes l))) (known_is g) ∙ ap (λ x. first x (join_scopes (i, s))) (known_is h)
 
-    join_of : {i j : ℕ} {cs ds : List Col} → RowsOf done left i cs → RowsOf done right j ds
+    join_of : {i j : ℕ} {cs ds : List ScopeColumn} → RowsOf done left i cs → RowsOf done right j ds
         → join done left left_by right right_by ≡ first (fields_of cs [] left_by) (join_right i left cs j right ds right_by)
     join_of g h = join_operands g h
 
@@ -530,19 +527,19 @@ module _ (ch : Channels) (schemas : HaveSchemas ch) (done : Aliases) (narrow : N
         unknown_right : {i : ℕ} {s : Scope} → IsFirst left done i s → IsMissing right done → joins
         unknown_right g h = fails the_join fault.UnknownAlias (r.unknown_alias new (r.after (r.here h))) (join_right_missing left left_by right right_by g h)
 
-        grouped_left : {i j : ℕ} {bag : List ℕ} {by cs : List Col} {t : Scope} → IsFirst left done i (Group bag by cs) → IsFirst right done j t → joins
+        grouped_left : {i j : ℕ} {bag : List ℕ} {by cs : List ScopeColumn} {t : Scope} → IsFirst left done i (Group bag by cs) → IsFirst right done j t → joins
         grouped_left {i} {j} {bag} {by} {cs} {t} g h =
             fails the_join fault.BagMisused (r.bag_misused new ((i, Group bag by cs, g), ((j, t, h), tt)) tt (r.here (i, bag, by, cs, g)))
             (join_operands left left_by right right_by g h)
 
-        grouped_right : {i j : ℕ} {bag : List ℕ} {by cs ds : List Col} → RowsOf done left i ds → IsFirst right done j (Group bag by cs) → joins
+        grouped_right : {i j : ℕ} {bag : List ℕ} {by cs ds : List ScopeColumn} → RowsOf done left i ds → IsFirst right done j (Group bag by cs) → joins
         grouped_right {i} {j} {bag} {by} {cs} {ds} g h =
             fails the_join fault.BagMisused (r.bag_misused new ((i, Rows ds, g), ((j, Group bag by cs, h), tt)) tt (r.after (r.here (j, bag, by, cs, h))))
             (join_operands left left_by right right_by g h)
 
-        module _ (i j : ℕ) (cs ds : List Col) (g : RowsOf done left i cs) (h : RowsOf done right j ds) where
+        module _ (i j : ℕ) (cs ds : List ScopeColumn) (g : RowsOf done left i cs) (h : RowsOf done right j ds) where
           -- with the columns of both BY lists
-          lists_found : (is js : List ℕ) (us bs : List Col) → FieldsName cs left_by is us → FieldsName ds right_by js bs → joins
+          lists_found : (is js : List ℕ) (us bs : List ScopeColumn) → FieldsName cs left_by is us → FieldsName ds right_by js bs → joins
           lists_found is js us bs one two = by_length (nat_eq (length is) (length js)) refl
             where
               lists : join done left left_by right right_by ≡ join_lengths i left cs is j right ds js
@@ -570,7 +567,7 @@ module _ (ch : Channels) (schemas : HaveSchemas ch) (done : Aliases) (narrow : N
           rows_found : joins
           rows_found = on_left (fields_of cs [] left_by) refl (fields_found cs left_by [])
             where
-              on_right : (is : List ℕ) (us : List Col) → FieldsName cs left_by is us → (a : Answer (List ℕ)) → fields_of ds [] right_by ≡ a → Fields ds [] right_by a → joins
+              on_right : (is : List ℕ) (us : List ScopeColumn) → FieldsName cs left_by is us → (a : Answer (List ℕ)) → fields_of ds [] right_by ≡ a → Fields ds [] right_by a → joins
               on_right is us one (Ok js) given two = lists_found is two.0 us two.1 one two.2
               on_right is us one (Err cause) given two =
                   fails the_join cause (r.in_right new g h one two)
@@ -698,10 +695,10 @@ module _ (ch : Channels) (schemas : HaveSchemas ch) (done : Aliases) (narrow : N
   Storing alias channel (Ok k) = Stores ch done alias channel k
   Storing alias channel (Err cause) = StoreFails ch done alias channel cause
 
-  abbrev output_kinds : List Col
+  abbrev output_kinds : List ScopeColumn
   output_kinds = channel_columns ch.output.1.columns
 
-  abbrev stored_rows : (ℕ × Scope) → List Col → Answer ℕ
+  abbrev stored_rows : (ℕ × Scope) → List ScopeColumn → Answer ℕ
   stored_rows k cs = if_not fault.SchemaDiffers (same_kinds cs output_kinds) k.0
 
   abbrev stored_known : List ℕ → (ℕ × Scope) → Answer ℕ
@@ -724,7 +721,7 @@ module _ (ch : Channels) (schemas : HaveSchemas ch) (done : Aliases) (narrow : N
           subst (Storing alias channel) (sym (store_on channel h ∙ ap (λ b. first (test fault.UnknownChannel b) (λ _. first (ungrouped s) (stored_rows (k, s)))) e))
           (r.unknown_channel (k, s, h) (not_same channel ch.output.0 e))
 
-      schema : {k : ℕ} {cs : List Col} → RowsOf done alias k cs → (b : Bool) → same_kinds cs output_kinds ≡ b → Storing alias ch.output.0 (if_not fault.SchemaDiffers b k)
+      schema : {k : ℕ} {cs : List ScopeColumn} → RowsOf done alias k cs → (b : Bool) → same_kinds cs output_kinds ≡ b → Storing alias ch.output.0 (if_not fault.SchemaDiffers b k)
       schema {k} {cs} h true e = r.stores h (kinds_same cs output_kinds e)
       schema {k} {cs} h false e = r.schema_differs h (kinds_differ cs output_kinds e)
 

@@ -1,11 +1,9 @@
 -- What is answered of an expression and of an item is what the relations say.
-use Rattle.std.proofs.Common.{◌≡◌, ◌≢◌, ◌+◌, ℕ, zero, suc, ℤ, Bool, true, false, ◌&&◌, if◌then◌else◌, List, [], ◌∷◌, ◌++◌, length, map, Option, Some, None, Ok, Err, refl, ap, sym, ◌∙◌, subst, arith, append_assoc, append-nil}
+use Rattle.std.proofs.Common.{◌≡◌, ◌≢◌, ℕ, Bool, true, false, ◌&&◌, List, Option, Ok, Err, refl, ap, sym, ◌∙◌, subst}
 use Rattle.nova_value.specs.declared.value.Kind.{Kind}
 use Rattle.nova_value.specs.declared.value.Kind.TheVariants as kind
 use Rattle.nova_pig_tree.specs.declared.expression.CallKind.{CallKind}
-use Rattle.nova_pig_tree.specs.declared.expression.CompareOp.{CompareOp}
 use Rattle.nova_pig_tree.specs.declared.expression.Field.{Field}
-use Rattle.nova_pig_tree.specs.declared.expression.Field.TheVariants as field
 use Rattle.nova_pig_tree.specs.declared.expression.Expr.{Expr}
 use Rattle.nova_pig_tree.specs.declared.expression.Expr.TheVariants as e
 use Rattle.nova_pig_tree.specs.declared.expression.Expr.TheOpen.{Expr-F}
@@ -17,12 +15,10 @@ use Rattle.nova_pig_algebra.specs.declared.node.Sort.{Sort}
 use Rattle.nova_pig_algebra.specs.declared.node.Sort.TheVariants.{Of, Condition}
 use Rattle.nova_pig_plan.specs.declared.fault.Cause.{Cause}
 use Rattle.nova_pig_plan.specs.declared.fault.Cause.TheVariants as fault
-use Rattle.nova_pig_plan.specs.declared.scope.Col.{Col}
 use Rattle.nova_pig_plan.specs.declared.scope.Scope.{Scope}
 use Rattle.nova_pig_plan.specs.declared.scope.Typed.{Typed}
 use Rattle.nova_pig_plan.specs.Answers.{Answer, first, both, if_not}
 use Rattle.nova_pig_plan.specs.Exprs.{long, is_long, is_condition, are_alike, typed, minus, negated, choice, ref_of, call_of, expr_of}
-use Rattle.nova_pig_forms.specs.References.{Refers}
 use Rattle.nova_pig_forms.specs.Resolves.{Operator, Add, Sub, Mul, Compare, And, Or, tree, planned, Takes, Resolves, ExprFails}
 use Rattle.nova_pig_forms.specs.Resolves as r
 use Rattle.nova_pig_forms.proofs.Refer.{Referred, ref_found, ref_read, ref_failed, Called, call_found, call_read, call_failed}

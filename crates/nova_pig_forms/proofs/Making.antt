@@ -1,5 +1,5 @@
 -- What is answered of the items of a FOREACH is what the relations say.
-use Rattle.std.proofs.Common.{◌≡◌, ◌≢◌, ◌+◌, ℕ, zero, suc, Bool, true, false, List, [], ◌∷◌, ◌++◌, length, map, Option, Some, None, Ok, Err, refl, ap, sym, ◌∙◌, subst, arith, append_assoc, append-nil}
+use Rattle.std.proofs.Common.{◌≡◌, ◌≢◌, ℕ, suc, Bool, true, false, List, [], ◌∷◌, ◌++◌, length, map, Option, Some, None, Ok, Err, refl, ap, sym, ◌∙◌, subst, arith, append_assoc, append-nil}
 use Rattle.nova_value.specs.declared.value.Kind.{Kind}
 use Rattle.nova_value.specs.declared.value.Kind.TheVariants as kind
 use Rattle.nova_pig_tree.specs.declared.expression.Field.{Field}
@@ -16,16 +16,15 @@ use Rattle.nova_pig_algebra.specs.declared.node.Sort.{Sort}
 use Rattle.nova_pig_algebra.specs.declared.node.Sort.TheVariants.{Of, Condition}
 use Rattle.nova_pig_plan.specs.declared.fault.Cause.{Cause}
 use Rattle.nova_pig_plan.specs.declared.fault.Cause.TheVariants as fault
-use Rattle.nova_pig_plan.specs.declared.scope.Col.{Col}
+use Rattle.nova_pig_plan.specs.declared.scope.ScopeColumn.{ScopeColumn}
 use Rattle.nova_pig_plan.specs.declared.scope.Scope.{Scope}
 use Rattle.nova_pig_plan.specs.declared.scope.Scope.TheVariants.{Rows, Group}
 use Rattle.nova_pig_plan.specs.declared.scope.Typed.{Typed}
 use Rattle.nova_pig_plan.specs.declared.scope.Made.{Made}
 use Rattle.nova_pig_plan.specs.Layer.{Layer}
 use Rattle.nova_pig_plan.specs.Answers.{Answer, first, if_not}
-use Rattle.nova_pig_plan.specs.Columns.{field_of}
-use Rattle.nova_pig_plan.specs.Exprs.{typed, group_name, expr_of, ref_of}
-use Rattle.nova_pig_plan.specs.Items.{col, same_kind, column_at, column_meant, unnamed, field_label, layer_label, item_label, value_kind, with_kind, with_item, with_all, with_flat, flattened, value_of, item_of, items_of}
+use Rattle.nova_pig_plan.specs.Exprs.{group_name, expr_of, ref_of}
+use Rattle.nova_pig_plan.specs.Items.{column_with, same_kind, column_meant, field_label, layer_label, item_label, value_kind, with_kind, with_item, with_all, with_flat, flattened, value_of, item_of, items_of}
 use Rattle.nova_pig_forms.specs.References.{Names, Refers}
 use Rattle.nova_pig_forms.specs.References as refer
 use Rattle.nova_pig_forms.specs.Resolves.{Resolves, ExprFails, Label, IsLabel, IsKindAfter, numbered, ItemMakes, ItemFails, ItemsMake, ItemsFail}
@@ -34,10 +33,10 @@ use Rattle.nova_pig_forms.proofs.Refer.{Referred, ref_found, names_read, named_a
 use Rattle.nova_pig_forms.proofs.Express.{Answered, expr_found, expr_read, expr_failed}
 use Rattle.nova_pig_plan.proofs.Laws as laws
 
-abbrev label_of : Col → Label
+abbrev label_of : ScopeColumn → Label
 label_of c = (c.name, c.origin)
 
-ref_label : {s : Scope} {f : Field} {x : PlanExpr} {c : Col} → Refers s f x c → IsLabel s None (e.Ref f) (label_of (field_label s f))
+ref_label : {s : Scope} {f : Field} {x : PlanExpr} {c : ScopeColumn} → Refers s f x c → IsLabel s None (e.Ref f) (label_of (field_label s f))
 ref_label (refer.rows {cs = cs} {f = f} {k = k} {c = c} h) =
     subst (λ d. IsLabel (Rows cs) None (e.Ref f) (label_of d)) (sym (ap (column_meant cs) (names_read h) ∙ column_there cs k c (named_at h))) (r.kept h)
 ref_label (refer.groups (refer.group is)) = r.group
@@ -64,14 +63,14 @@ item_label_found : (s : Scope) (name : Option (List ℕ)) (x : Expr) (t : Typed)
 item_label_found s (Some name) x t given = r.given
 item_label_found s None x t given = label_found s x t given
 
-other_label : (s : Scope) (x : Expr) (k : Kind) → ((f : Field) → x ≡ e.Ref f → ⊥) → with_kind k (layer_label s (out-Expr x)) ≡ col k None None
+other_label : (s : Scope) (x : Expr) (k : Kind) → ((f : Field) → x ≡ e.Ref f → ⊥) → with_kind k (layer_label s (out-Expr x)) ≡ column_with k None None
 other_label s x k none = step (out-Expr x) refl
   where
-    step : (y : Layer) → out-Expr x ≡ y → with_kind k (layer_label s y) ≡ col k None None
+    step : (y : Layer) → out-Expr x ≡ y → with_kind k (layer_label s y) ≡ column_with k None None
     step (Expr-F.Ref f) is = absurd (none f (opened x f is))
     step y is = refl
 
-label_read : {s : Scope} {name : Option (List ℕ)} {x : Expr} {l : Label} (k : Kind) → IsLabel s name x l → with_kind k (item_label s name x) ≡ col k l.0 l.1
+label_read : {s : Scope} {name : Option (List ℕ)} {x : Expr} {l : Label} (k : Kind) → IsLabel s name x l → with_kind k (item_label s name x) ≡ column_with k l.0 l.1
 label_read k r.given = refl
 label_read i (r.kept {cs = cs} {f = f} {k = k} {c = c} h) =
     ap (λ y. with_kind i (layer_label (Rows cs) y)) (e.outs-Ref f) ∙ ap (λ a. with_kind i (column_meant cs a)) (names_read h) ∙ ap (with_kind i) (column_there cs k c (named_at h))
@@ -81,38 +80,38 @@ label_read i (r.part {bag = bag} {name = name} {by = by} {cs = cs}) = ap (λ y. 
 label_read i (r.other {s = s} {x = x} none) = other_label s x i none
 
 -- what was made, and more
-abbrev pub more : Made → List PlanExpr → List Col → Made
+abbrev pub more : Made → List PlanExpr → List ScopeColumn → Made
 more made xs cs = record { exprs = made.exprs ++ xs; columns = made.columns ++ cs }
 
 nothing_more : (made : Made) → more made [] [] ≡ made
 nothing_more made = λ i. record { exprs = append-nil made.exprs i; columns = append-nil made.columns i }
 
-twice_more : (made : Made) (xs ys : List PlanExpr) (cs ds : List Col) → more (more made xs cs) ys ds ≡ more made (xs ++ ys) (cs ++ ds)
+twice_more : (made : Made) (xs ys : List PlanExpr) (cs ds : List ScopeColumn) → more (more made xs cs) ys ds ≡ more made (xs ++ ys) (cs ++ ds)
 twice_more made xs ys cs ds = λ i. record { exprs = append_assoc made.exprs xs ys i; columns = append_assoc made.columns cs ds i }
 
-all_made : (n : ℕ) (made : Made) (cs : List Col) → with_all n made cs ≡ more made (numbered p.Col n cs) cs
+all_made : (n : ℕ) (made : Made) (cs : List ScopeColumn) → with_all n made cs ≡ more made (numbered p.Col n cs) cs
 all_made n made [] = sym (nothing_more made)
 all_made n made (c ∷ cs) = all_made (suc n) (with_item made (p.Col n) c) cs ∙ twice_more made (p.Col n ∷ []) (numbered p.Col (suc n) cs) (c ∷ []) cs
 
-abbrev from_group : Col → Col
-from_group c = col c.kind c.name (Some group_name)
+abbrev from_group : ScopeColumn → ScopeColumn
+from_group c = column_with c.kind c.name (Some group_name)
 
-flat_made : (n : ℕ) (made : Made) (cs : List Col) → with_flat n made cs ≡ more made (numbered p.GroupCol n cs) (map from_group cs)
+flat_made : (n : ℕ) (made : Made) (cs : List ScopeColumn) → with_flat n made cs ≡ more made (numbered p.GroupCol n cs) (map from_group cs)
 flat_made n made [] = sym (nothing_more made)
 flat_made n made (c ∷ cs) =
     flat_made (suc n) (with_item made (p.GroupCol n) (from_group c)) cs ∙ twice_more made (p.GroupCol n ∷ []) (numbered p.GroupCol (suc n) cs) (from_group c ∷ []) (map from_group cs)
 
 -- what is answered of an item, after others
 abbrev pub Makes : Scope → Made → Item → Answer Made → Type 0
-Makes s made i (Ok m) = (xs : List PlanExpr) × (cs : List Col) × ItemMakes s i xs cs × (m ≡ more made xs cs)
+Makes s made i (Ok m) = (xs : List PlanExpr) × (cs : List ScopeColumn) × ItemMakes s i xs cs × (m ≡ more made xs cs)
 Makes s made i (Err cause) = ItemFails s i cause
 
-flat_found : (bag : List ℕ) (by cs : List Col) (made : Made) → Makes (Group bag by cs) made item.Flatten (Ok (flattened made by))
+flat_found : (bag : List ℕ) (by cs : List ScopeColumn) (made : Made) → Makes (Group bag by cs) made item.Flatten (Ok (flattened made by))
 flat_found bag [] cs made = ([], [], r.flat (λ l. omega (arith, l)), flat_made 0 made [])
-flat_found bag (c ∷ []) cs made = (p.GroupCol 0 ∷ [], col c.kind (Some group_name) None ∷ [], r.one, refl)
+flat_found bag (c ∷ []) cs made = (p.GroupCol 0 ∷ [], column_with c.kind (Some group_name) None ∷ [], r.one, refl)
 flat_found bag (c ∷ d ∷ by) cs made = (numbered p.GroupCol 0 (c ∷ d ∷ by), map from_group (c ∷ d ∷ by), r.flat (λ l. omega (arith, l)), flat_made 0 made (c ∷ d ∷ by))
 
-flat_read : (by : List Col) (made : Made) → length by ≢ 1 → flattened made by ≡ more made (numbered p.GroupCol 0 by) (map from_group by)
+flat_read : (by : List ScopeColumn) (made : Made) → length by ≢ 1 → flattened made by ≡ more made (numbered p.GroupCol 0 by) (map from_group by)
 flat_read [] made never = flat_made 0 made []
 flat_read (c ∷ []) made never = absurd (never (omega arith))
 flat_read (c ∷ d ∷ by) made never = flat_made 0 made (c ∷ d ∷ by)
@@ -176,7 +175,7 @@ kind_read : (after : Option Kind) (k : Kind) → IsKindAfter after k → value_k
 kind_read None k h = refl
 kind_read (Some j) k h = ap (λ b. if_not fault.WrongType b k) (ap (same_kind k) h ∙ own_kind k)
 
-item_read : {s : Scope} {i : Item} {xs : List PlanExpr} {cs : List Col} (made : Made) → ItemMakes s i xs cs → item_of s made i ≡ Ok (more made xs cs)
+item_read : {s : Scope} {i : Item} {xs : List PlanExpr} {cs : List ScopeColumn} (made : Made) → ItemMakes s i xs cs → item_of s made i ≡ Ok (more made xs cs)
 item_read made (r.all {cs = cs}) = ap Ok (all_made 0 made cs)
 item_read made r.one = refl
 item_read made (r.flat {by = by} never) = ap Ok (flat_read by made never)
@@ -196,14 +195,14 @@ item_failed made (r.other_kind {s = s} {x = x} {name = name} {j = j} {k = k} {v 
 
 -- what is answered of items, after others
 abbrev pub AllMake : Scope → Made → List Item → Answer Made → Type 0
-AllMake s made is (Ok m) = (xs : List PlanExpr) × (cs : List Col) × ItemsMake s is xs cs × (m ≡ more made xs cs)
+AllMake s made is (Ok m) = (xs : List PlanExpr) × (cs : List ScopeColumn) × ItemsMake s is xs cs × (m ≡ more made xs cs)
 AllMake s made is (Err cause) = ItemsFail s is cause
 
 pub items_found : (s : Scope) (is : List Item) (made : Made) → AllMake s made is (items_of s made is)
 items_found s [] made = ([], [], r.none, sym (nothing_more made))
 items_found s (i ∷ is) made = step (item_of s made i) (item_found s made i) (λ m. items_found s is m)
   where
-    joined : (xs : List PlanExpr) (cs : List Col) (m : Made) → ItemMakes s i xs cs → m ≡ more made xs cs → (a : Answer Made) → AllMake s m is a → AllMake s made (i ∷ is) a
+    joined : (xs : List PlanExpr) (cs : List ScopeColumn) (m : Made) → ItemMakes s i xs cs → m ≡ more made xs cs → (a : Answer Made) → AllMake s m is a → AllMake s made (i ∷ is) a
     joined xs cs m h same (Ok n) rest = (xs ++ rest.0, cs ++ rest.1, r.more h rest.2, rest.3 ∙ ap (λ z. more z rest.0 rest.1) same ∙ twice_more made xs rest.0 cs rest.1)
     joined xs cs m h same (Err cause) rest = r.after h rest
 
@@ -211,7 +210,7 @@ items_found s (i ∷ is) made = step (item_of s made i) (item_found s made i) (�
     step (Ok m) h rest = joined h.0 h.1 m h.2 h.3 (items_of s m is) (rest m)
     step (Err cause) h rest = r.here h
 
-pub items_read : {s : Scope} {is : List Item} {xs : List PlanExpr} {cs : List Col} (made : Made) → ItemsMake s is xs cs → items_of s made is ≡ Ok (more made xs cs)
+pub items_read : {s : Scope} {is : List Item} {xs : List PlanExpr} {cs : List ScopeColumn} (made : Made) → ItemsMake s is xs cs → items_of s made is ≡ Ok (more made xs cs)
 items_read made r.none = ap Ok (sym (nothing_more made))
 items_read {s} made (r.more {is = is} {xs = xs} {ys = ys} {cs = cs} {ds = ds} h rest) =
     ap (λ a. first a (λ m. items_of s m is)) (item_read made h) ∙ items_read (more made xs cs) rest ∙ ap Ok (twice_more made xs ys cs ds)

@@ -1,5 +1,5 @@
 -- A script has the plan, or the first fault, that the relations say.
-use Rattle.std.proofs.Common.{◌≡◌, ◌+◌, ◌≤◌, ℕ, suc, List, [], ◌∷◌, ◌++◌, length, Result, Ok, Err, refl, ap, sym, ◌∙◌, subst, arith, append_assoc, append-nil, length-append}
+use Rattle.std.proofs.Common.{◌≡◌, ◌≤◌, ℕ, suc, List, [], ◌∷◌, ◌++◌, length, Result, Ok, Err, refl, ap, sym, ◌∙◌, subst, arith, append_assoc, append-nil, length-append}
 use Rattle.std.specs.List.{AllByRecursion}
 use Rattle.nova_pig_tree.specs.declared.statement.Op.{Op}
 use Rattle.nova_pig_tree.specs.declared.statement.Body.{Body}
@@ -9,7 +9,6 @@ use Rattle.nova_pig_algebra.specs.Plan.{Plan}
 use Rattle.nova_pig_algebra.specs.declared.node.Node.{Node}
 use Rattle.nova_pig_plan.specs.declared.fault.Cause.{Cause}
 use Rattle.nova_pig_plan.specs.declared.fault.Cause.TheVariants as fault
-use Rattle.nova_pig_plan.specs.declared.scope.Scope.{Scope}
 use Rattle.nova_pig_plan.specs.declared.scope.Defined.{Defined}
 use Rattle.nova_pig_plan.specs.declared.scope.Channels.{Channels}
 use Rattle.nova_pig_plan.specs.declared.scope.Graph.{Graph}

@@ -1,9 +1,8 @@
 -- The plan of a script, one case for each operator, and its first fault, one case for each row of
 -- the table of faults: the fault, the statement, and the cause at the first such place.
-use Rattle.std.specs.Prelude.{◌≡◌, ◌≢◌, ◌↔◌, ℕ, suc, ◌<◌, ◌≤◌, List, [], ◌∷◌, ◌++◌, length, Some, Ok, Err}
+use Rattle.std.specs.Prelude.{◌≡◌, ◌≢◌, ◌↔◌, ℕ, suc, ◌<◌, ◌≤◌, List, [], ◌∷◌, ◌++◌, length, Ok, Err}
 use Rattle.std.specs.List.{AllByRecursion}
 use Rattle.nova_value.specs.Rows.{Shape, IsShape}
-use Rattle.nova_value.specs.declared.value.Kind.{Kind}
 use Rattle.nova_pig_tree.specs.declared.expression.Field.{Field}
 use Rattle.nova_pig_tree.specs.declared.expression.Expr.{Expr}
 use Rattle.nova_pig_tree.specs.declared.statement.Item.{Item}
@@ -20,7 +19,7 @@ use Rattle.nova_pig_algebra.specs.declared.node.Sort.{Sort}
 use Rattle.nova_pig_algebra.specs.declared.node.Sort.TheVariants.{Condition}
 use Rattle.nova_pig_plan.specs.declared.fault.Cause.{Cause}
 use Rattle.nova_pig_plan.specs.declared.fault.Cause.TheVariants.{AliasTwice, UnknownAlias, UnknownChannel, BagMisused, SchemaDiffers, WrongType, TooWide, NoStore}
-use Rattle.nova_pig_plan.specs.declared.scope.Col.{Col}
+use Rattle.nova_pig_plan.specs.declared.scope.ScopeColumn.{ScopeColumn}
 use Rattle.nova_pig_plan.specs.declared.scope.Scope.{Scope}
 use Rattle.nova_pig_plan.specs.declared.scope.Scope.TheVariants.{Rows, Group}
 use Rattle.nova_pig_plan.specs.declared.scope.Channels.{Channels}
@@ -51,12 +50,12 @@ module _ (done : Aliases) where
   IsDefined a = (k : ℕ) × (s : Scope) × IsFirst a done k s
 
   -- the alias is defined before, and isn't grouped
-  abbrev pub RowsOf : List ℕ → ℕ → List Col → Type 0
+  abbrev pub RowsOf : List ℕ → ℕ → List ScopeColumn → Type 0
   RowsOf a k cs = IsFirst a done k (Rows cs)
 
   -- the alias is a grouped one
   abbrev pub IsGrouped : List ℕ → Type 0
-  IsGrouped a = (k : ℕ) × (bag : List ℕ) × (by : List Col) × (cs : List Col) × IsFirst a done k (Group bag by cs)
+  IsGrouped a = (k : ℕ) × (bag : List ℕ) × (by : List ScopeColumn) × (cs : List ScopeColumn) × IsFirst a done k (Group bag by cs)
 
 -- the operands of an operator, from left to right
 abbrev pub operands : Op → List (List ℕ)
@@ -74,28 +73,28 @@ TakesRows (op.Foreach from items) = ⊥
 TakesRows _ = Unit {0}
 
 -- the columns that the fields of a BY list name
-pub data FieldsName (cs : List Col) : List Field → List ℕ → List Col → Type 0 where
+pub data FieldsName (cs : List ScopeColumn) : List Field → List ℕ → List ScopeColumn → Type 0 where
   none : FieldsName cs [] [] []
-  more : {f : Field} {fs : List Field} {k : ℕ} {ks : List ℕ} {d : Col} {ds : List Col} → Names cs f k d → FieldsName cs fs ks ds → FieldsName cs (f ∷ fs) (k ∷ ks) (d ∷ ds)
+  more : {f : Field} {fs : List Field} {k : ℕ} {ks : List ℕ} {d : ScopeColumn} {ds : List ScopeColumn} → Names cs f k d → FieldsName cs fs ks ds → FieldsName cs (f ∷ fs) (k ∷ ks) (d ∷ ds)
 
 -- of the fields of a BY list the first that fails
-pub data FieldsFail (cs : List Col) : List Field → Cause → Type 0 where
+pub data FieldsFail (cs : List ScopeColumn) : List Field → Cause → Type 0 where
   here : {f : Field} {fs : List Field} {cause : Cause} → NameFails cs f cause → FieldsFail cs (f ∷ fs) cause
-  after : {f : Field} {fs : List Field} {k : ℕ} {d : Col} {cause : Cause} → Names cs f k d → FieldsFail cs fs cause → FieldsFail cs (f ∷ fs) cause
+  after : {f : Field} {fs : List Field} {k : ℕ} {d : ScopeColumn} {cause : Cause} → Names cs f k d → FieldsFail cs fs cause → FieldsFail cs (f ∷ fs) cause
 
 -- the numbers and the columns of UNION's arms
-pub data ArmsAre (done : Aliases) : List (List ℕ) → List ℕ → List (List Col) → Type 0 where
+pub data ArmsAre (done : Aliases) : List (List ℕ) → List ℕ → List (List ScopeColumn) → Type 0 where
   none : ArmsAre done [] [] []
-  more : {a : List ℕ} {us : List (List ℕ)} {k : ℕ} {ks : List ℕ} {cs : List Col} {css : List (List Col)} → RowsOf done a k cs → ArmsAre done us ks css
+  more : {a : List ℕ} {us : List (List ℕ)} {k : ℕ} {ks : List ℕ} {cs : List ScopeColumn} {css : List (List ScopeColumn)} → RowsOf done a k cs → ArmsAre done us ks css
       → ArmsAre done (a ∷ us) (k ∷ ks) (cs ∷ css)
 
 -- the columns of the first arm
-abbrev pub first_arm : List (List Col) → List Col
+abbrev pub first_arm : List (List ScopeColumn) → List ScopeColumn
 first_arm [] = []
 first_arm (cs ∷ css) = cs
 
 -- the arms are alike in number and kinds of columns
-abbrev pub AreAlike : List (List Col) → Type 0
+abbrev pub AreAlike : List (List ScopeColumn) → Type 0
 AreAlike css = AllByRecursion (λ cs. kinds (first_arm css) ≡ kinds cs) css
 
 -- the node that an operator makes, and the columns of its alias, where no field, call, expression or kind fails
@@ -103,20 +102,20 @@ pub data Makes (ch : Channels) (done : Aliases) : Op → Node → Scope → Type
   -- LOAD gives the channel's names without origin
   load : {channel : List ℕ} {k : ℕ} {shape : Shape} → IsFirst channel ch.inputs k shape → Makes ch done (op.Load channel) (node.Load k) (Rows (channel_columns shape.columns))
   -- FILTER and DISTINCT keep all
-  filter : {from : List ℕ} {k : ℕ} {cs : List Col} {c : Expr} {x : PlanExpr} → RowsOf done from k cs → Resolves (Rows cs) c x Condition
+  filter : {from : List ℕ} {k : ℕ} {cs : List ScopeColumn} {c : Expr} {x : PlanExpr} → RowsOf done from k cs → Resolves (Rows cs) c x Condition
       → Makes ch done (op.Filter from c) (node.Filter k x) (Rows cs)
-  distinct : {from : List ℕ} {k : ℕ} {cs : List Col} → RowsOf done from k cs → Makes ch done (op.Distinct from) (node.Distinct k) (Rows cs)
-  foreach : {from : List ℕ} {k : ℕ} {s : Scope} {items : List Item} {xs : List PlanExpr} {cs : List Col} → IsFirst from done k s → ItemsMake s items xs cs
+  distinct : {from : List ℕ} {k : ℕ} {cs : List ScopeColumn} → RowsOf done from k cs → Makes ch done (op.Distinct from) (node.Distinct k) (Rows cs)
+  foreach : {from : List ℕ} {k : ℕ} {s : Scope} {items : List Item} {xs : List PlanExpr} {cs : List ScopeColumn} → IsFirst from done k s → ItemsMake s items xs cs
       → Makes ch done (op.Foreach from items) (node.Foreach k xs) (Rows cs)
   -- a grouped alias has `group`, made of the BY columns in their order, and a bag of the rows, named by the grouped alias
-  group : {from : List ℕ} {k : ℕ} {cs ds : List Col} {by : List Field} {ks : List ℕ} → RowsOf done from k cs → FieldsName cs by ks ds
+  group : {from : List ℕ} {k : ℕ} {cs ds : List ScopeColumn} {by : List Field} {ks : List ℕ} → RowsOf done from k cs → FieldsName cs by ks ds
       → Makes ch done (op.Group from by) (node.Group k ks) (Group from ds cs)
   -- JOIN gives the left columns and then the right ones, each with its alias as origin; the BY lists have equal kinds
-  join : {left right : List ℕ} {i j : ℕ} {cs ds us bs : List Col} {left_by right_by : List Field} {is js : List ℕ} → RowsOf done left i cs → RowsOf done right j ds
+  join : {left right : List ℕ} {i j : ℕ} {cs ds us bs : List ScopeColumn} {left_by right_by : List Field} {is js : List ℕ} → RowsOf done left i cs → RowsOf done right j ds
       → FieldsName cs left_by is us → FieldsName ds right_by js bs → length left_by ≡ length right_by → kinds us ≡ kinds bs
       → Makes ch done (op.Join left left_by right right_by) (node.Join i is j js) (Rows (from_alias left cs ++ from_alias right ds))
   -- UNION has the first arm's names and origins
-  union : {arms : List (List ℕ)} {ks : List ℕ} {css : List (List Col)} → ArmsAre done arms ks css → AreAlike css → Makes ch done (op.Union arms) (node.Union ks) (Rows (first_arm css))
+  union : {arms : List (List ℕ)} {ks : List ℕ} {css : List (List ScopeColumn)} → ArmsAre done arms ks css → AreAlike css → Makes ch done (op.Union arms) (node.Union ks) (Rows (first_arm css))
 
 -- how many columns an alias has: a grouped one has two, `group` and its bag
 abbrev pub width : Scope → ℕ
@@ -135,32 +134,32 @@ pub data DefineFails (ch : Channels) (done : Aliases) (alias : List ℕ) : Op �
   bag_misused : {o : Op} → IsMissing alias done → AllByRecursion (IsDefined done) (operands o) → TakesRows o → Among (IsGrouped done) (operands o)
       → DefineFails ch done alias o BagMisused
   -- 5. fields, calls, expressions and items, from left to right: UnknownField, Ambiguous, BagMisused, WrongType
-  in_filter : {from : List ℕ} {k : ℕ} {cs : List Col} {c : Expr} {cause : Cause} → IsMissing alias done → RowsOf done from k cs → ExprFails (Rows cs) c cause
+  in_filter : {from : List ℕ} {k : ℕ} {cs : List ScopeColumn} {c : Expr} {cause : Cause} → IsMissing alias done → RowsOf done from k cs → ExprFails (Rows cs) c cause
       → DefineFails ch done alias (op.Filter from c) cause
-  no_condition : {from : List ℕ} {k : ℕ} {cs : List Col} {c : Expr} {x : PlanExpr} {r : Sort} → IsMissing alias done → RowsOf done from k cs → Resolves (Rows cs) c x r → r ≢ Condition
+  no_condition : {from : List ℕ} {k : ℕ} {cs : List ScopeColumn} {c : Expr} {x : PlanExpr} {r : Sort} → IsMissing alias done → RowsOf done from k cs → Resolves (Rows cs) c x r → r ≢ Condition
       → DefineFails ch done alias (op.Filter from c) WrongType
   in_foreach : {from : List ℕ} {k : ℕ} {s : Scope} {items : List Item} {cause : Cause} → IsMissing alias done → IsFirst from done k s → ItemsFail s items cause
       → DefineFails ch done alias (op.Foreach from items) cause
-  in_group : {from : List ℕ} {k : ℕ} {cs : List Col} {by : List Field} {cause : Cause} → IsMissing alias done → RowsOf done from k cs → FieldsFail cs by cause
+  in_group : {from : List ℕ} {k : ℕ} {cs : List ScopeColumn} {by : List Field} {cause : Cause} → IsMissing alias done → RowsOf done from k cs → FieldsFail cs by cause
       → DefineFails ch done alias (op.Group from by) cause
-  in_left : {left right : List ℕ} {i j : ℕ} {cs ds : List Col} {left_by right_by : List Field} {cause : Cause} → IsMissing alias done → RowsOf done left i cs → RowsOf done right j ds
+  in_left : {left right : List ℕ} {i j : ℕ} {cs ds : List ScopeColumn} {left_by right_by : List Field} {cause : Cause} → IsMissing alias done → RowsOf done left i cs → RowsOf done right j ds
       → FieldsFail cs left_by cause → DefineFails ch done alias (op.Join left left_by right right_by) cause
-  in_right : {left right : List ℕ} {i j : ℕ} {cs ds us : List Col} {left_by right_by : List Field} {is : List ℕ} {cause : Cause} → IsMissing alias done → RowsOf done left i cs → RowsOf done right j ds
+  in_right : {left right : List ℕ} {i j : ℕ} {cs ds us : List ScopeColumn} {left_by right_by : List Field} {is : List ℕ} {cause : Cause} → IsMissing alias done → RowsOf done left i cs → RowsOf done right j ds
       → FieldsName cs left_by is us → FieldsFail ds right_by cause → DefineFails ch done alias (op.Join left left_by right right_by) cause
   -- 6. JOIN's BY lists differ in length, then in kinds
-  by_lengths : {left right : List ℕ} {i j : ℕ} {cs ds us bs : List Col} {left_by right_by : List Field} {is js : List ℕ} → IsMissing alias done → RowsOf done left i cs → RowsOf done right j ds
+  by_lengths : {left right : List ℕ} {i j : ℕ} {cs ds us bs : List ScopeColumn} {left_by right_by : List Field} {is js : List ℕ} → IsMissing alias done → RowsOf done left i cs → RowsOf done right j ds
       → FieldsName cs left_by is us → FieldsName ds right_by js bs → length left_by ≢ length right_by → DefineFails ch done alias (op.Join left left_by right right_by) SchemaDiffers
-  by_kinds : {left right : List ℕ} {i j : ℕ} {cs ds us bs : List Col} {left_by right_by : List Field} {is js : List ℕ} → IsMissing alias done → RowsOf done left i cs → RowsOf done right j ds
+  by_kinds : {left right : List ℕ} {i j : ℕ} {cs ds us bs : List ScopeColumn} {left_by right_by : List Field} {is js : List ℕ} → IsMissing alias done → RowsOf done left i cs → RowsOf done right j ds
       → FieldsName cs left_by is us → FieldsName ds right_by js bs → length left_by ≡ length right_by → kinds us ≢ kinds bs → DefineFails ch done alias (op.Join left left_by right right_by) WrongType
   -- 7. UNION's arms differ in number or kinds of columns
-  schema_differs : {arms : List (List ℕ)} {ks : List ℕ} {css : List (List Col)} → IsMissing alias done → ArmsAre done arms ks css → (AreAlike css → ⊥)
+  schema_differs : {arms : List (List ℕ)} {ks : List ℕ} {css : List (List ScopeColumn)} → IsMissing alias done → ArmsAre done arms ks css → (AreAlike css → ⊥)
       → DefineFails ch done alias (op.Union arms) SchemaDiffers
   -- 8. the alias would have more than 64 columns
   too_wide : {o : Op} {n : Node} {s : Scope} → IsMissing alias done → Makes ch done o n s → 64 < width s → DefineFails ch done alias o TooWide
 
 -- the stored alias has this number: STORE names the output, whose columns are those of the alias in number and kinds
 pub data Stores (ch : Channels) (done : Aliases) (alias : List ℕ) : List ℕ → ℕ → Type 0 where
-  stores : {k : ℕ} {cs : List Col} → RowsOf done alias k cs → kinds cs ≡ kinds (channel_columns ch.output.1.columns) → Stores ch done alias ch.output.0 k
+  stores : {k : ℕ} {cs : List ScopeColumn} → RowsOf done alias k cs → kinds cs ≡ kinds (channel_columns ch.output.1.columns) → Stores ch done alias ch.output.0 k
 
 -- the first fault of STORE
 pub data StoreFails (ch : Channels) (done : Aliases) (alias : List ℕ) : List ℕ → Cause → Type 0 where
@@ -171,7 +170,7 @@ pub data StoreFails (ch : Channels) (done : Aliases) (alias : List ℕ) : List �
   -- 4. a grouped alias is an operand of anything but FOREACH
   bag_misused : IsGrouped done alias → StoreFails ch done alias ch.output.0 BagMisused
   -- 7. STORE's alias and the output channel differ in number or kinds of columns
-  schema_differs : {k : ℕ} {cs : List Col} → RowsOf done alias k cs → kinds cs ≢ kinds (channel_columns ch.output.1.columns) → StoreFails ch done alias ch.output.0 SchemaDiffers
+  schema_differs : {k : ℕ} {cs : List ScopeColumn} → RowsOf done alias k cs → kinds cs ≢ kinds (channel_columns ch.output.1.columns) → StoreFails ch done alias ch.output.0 SchemaDiffers
 
 pub data StatementFails (ch : Channels) (done : Aliases) : Body → Cause → Type 0 where
   define : {alias : List ℕ} {o : Op} {cause : Cause} → DefineFails ch done alias o cause → StatementFails ch done (body.Define alias o) cause

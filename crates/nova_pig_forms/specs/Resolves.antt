@@ -17,11 +17,11 @@ use Rattle.nova_pig_algebra.specs.declared.node.Sort.{Sort}
 use Rattle.nova_pig_algebra.specs.declared.node.Sort.TheVariants.{Of, Condition}
 use Rattle.nova_pig_plan.specs.declared.fault.Cause.{Cause}
 use Rattle.nova_pig_plan.specs.declared.fault.Cause.TheVariants.{WrongType, BagMisused}
-use Rattle.nova_pig_plan.specs.declared.scope.Col.{Col}
+use Rattle.nova_pig_plan.specs.declared.scope.ScopeColumn.{ScopeColumn}
 use Rattle.nova_pig_plan.specs.declared.scope.Scope.{Scope}
 use Rattle.nova_pig_plan.specs.declared.scope.Scope.TheVariants.{Rows, Group}
 use Rattle.nova_pig_plan.specs.Exprs.{long, group_name}
-use Rattle.nova_pig_plan.specs.Items.{col}
+use Rattle.nova_pig_plan.specs.Items.{column_with}
 use Rattle.nova_pig_forms.specs.References.{Names, Refers, RefFails, Calls, CallFails}
 
 -- the operators with two sides
@@ -64,7 +64,7 @@ pub data Takes : Operator → Sort → Sort → Sort → Type 0 where
 pub data Resolves (s : Scope) : Expr → PlanExpr → Sort → Type 0 where
   number : {n : ℤ} → Resolves s (e.Num n) (p.Num n) long
   literal : {t : List ℕ} → Resolves s (e.Lit t) (p.Lit t) (Of kind.Text)
-  reference : {f : Field} {x : PlanExpr} {c : Col} → Refers s f x c → Resolves s (e.Ref f) x (Of c.kind)
+  reference : {f : Field} {x : PlanExpr} {c : ScopeColumn} → Refers s f x c → Resolves s (e.Ref f) x (Of c.kind)
   called : {k : CallKind} {alias : List ℕ} {f : Option Field} {x : PlanExpr} {r : Sort} → Calls s k alias f x r → Resolves s (e.Call k alias f) x r
   minus : {a : Expr} {x : PlanExpr} → Resolves s a x long → Resolves s (e.Neg a) (p.Neg x) long
   negation : {a : Expr} {x : PlanExpr} → Resolves s a x Condition → Resolves s (e.Not a) (p.Not x) Condition
@@ -102,10 +102,10 @@ Label = Option (List ℕ) × Option (List ℕ)
 -- is named f; another item has no name
 pub data IsLabel : Scope → Option (List ℕ) → Expr → Label → Type 0 where
   given : {s : Scope} {name : List ℕ} {x : Expr} → IsLabel s (Some name) x (Some name, None)
-  kept : {cs : List Col} {f : Field} {k : ℕ} {c : Col} → Names cs f k c → IsLabel (Rows cs) None (e.Ref f) (c.name, c.origin)
-  group : {bag : List ℕ} {by cs : List Col} → IsLabel (Group bag by cs) None (e.Ref (field.Plain group_name)) (Some group_name, None)
-  first : {bag : List ℕ} {by cs : List Col} → IsLabel (Group bag by cs) None (e.Ref (field.At 0)) (Some group_name, None)
-  part : {bag name : List ℕ} {by cs : List Col} → IsLabel (Group bag by cs) None (e.Ref (field.GroupOf name)) (Some name, None)
+  kept : {cs : List ScopeColumn} {f : Field} {k : ℕ} {c : ScopeColumn} → Names cs f k c → IsLabel (Rows cs) None (e.Ref f) (c.name, c.origin)
+  group : {bag : List ℕ} {by cs : List ScopeColumn} → IsLabel (Group bag by cs) None (e.Ref (field.Plain group_name)) (Some group_name, None)
+  first : {bag : List ℕ} {by cs : List ScopeColumn} → IsLabel (Group bag by cs) None (e.Ref (field.At 0)) (Some group_name, None)
+  part : {bag name : List ℕ} {by cs : List ScopeColumn} → IsLabel (Group bag by cs) None (e.Ref (field.GroupOf name)) (Some name, None)
   other : {s : Scope} {x : Expr} → ((f : Field) → x ≡ e.Ref f → ⊥) → IsLabel s None x (None, None)
 
 -- the kind after AS, where one stands, is the item's
@@ -114,35 +114,35 @@ IsKindAfter None k = Unit {0}
 IsKindAfter (Some j) k = j ≡ k
 
 -- one expression for each column, with its place, counted from n
-abbrev pub numbered : (ℕ → PlanExpr) → ℕ → List Col → List PlanExpr
+abbrev pub numbered : (ℕ → PlanExpr) → ℕ → List ScopeColumn → List PlanExpr
 numbered expr n [] = []
 numbered expr n (c ∷ cs) = expr n ∷ numbered expr (suc n) cs
 
 -- the expressions and the columns that an item makes: `*` and `FLATTEN(group)` are written out, and each other item
 -- is a value
-pub data ItemMakes : Scope → Item → List PlanExpr → List Col → Type 0 where
-  all : {cs : List Col} → ItemMakes (Rows cs) item.All (numbered p.Col 0 cs) cs
+pub data ItemMakes : Scope → Item → List PlanExpr → List ScopeColumn → Type 0 where
+  all : {cs : List ScopeColumn} → ItemMakes (Rows cs) item.All (numbered p.Col 0 cs) cs
   -- one column named `group` where there is one BY column, and otherwise those with the origin `group`
-  one : {bag : List ℕ} {cs : List Col} {c : Col} → ItemMakes (Group bag (c ∷ []) cs) item.Flatten (p.GroupCol 0 ∷ []) (col c.kind (Some group_name) None ∷ [])
-  flat : {bag : List ℕ} {by cs : List Col} → length by ≢ 1 → ItemMakes (Group bag by cs) item.Flatten (numbered p.GroupCol 0 by) (map (λ c. col c.kind c.name (Some group_name)) by)
+  one : {bag : List ℕ} {cs : List ScopeColumn} {c : ScopeColumn} → ItemMakes (Group bag (c ∷ []) cs) item.Flatten (p.GroupCol 0 ∷ []) (column_with c.kind (Some group_name) None ∷ [])
+  flat : {bag : List ℕ} {by cs : List ScopeColumn} → length by ≢ 1 → ItemMakes (Group bag by cs) item.Flatten (numbered p.GroupCol 0 by) (map (λ c. column_with c.kind c.name (Some group_name)) by)
   value : {s : Scope} {x : Expr} {name : Option (List ℕ)} {after : Option Kind} {v : PlanExpr} {k : Kind} {l : Label}
-      → Resolves s x v (Of k) → IsKindAfter after k → IsLabel s name x l → ItemMakes s (item.Value x name after) (v ∷ []) (col k l.0 l.1 ∷ [])
+      → Resolves s x v (Of k) → IsKindAfter after k → IsLabel s name x l → ItemMakes s (item.Value x name after) (v ∷ []) (column_with k l.0 l.1 ∷ [])
 
 pub data ItemFails : Scope → Item → Cause → Type 0 where
   -- over a group `*`; over rows `FLATTEN(group)`
-  all : {bag : List ℕ} {by cs : List Col} → ItemFails (Group bag by cs) item.All BagMisused
-  flat : {cs : List Col} → ItemFails (Rows cs) item.Flatten BagMisused
+  all : {bag : List ℕ} {by cs : List ScopeColumn} → ItemFails (Group bag by cs) item.All BagMisused
+  flat : {cs : List ScopeColumn} → ItemFails (Rows cs) item.Flatten BagMisused
   expression : {s : Scope} {x : Expr} {name : Option (List ℕ)} {after : Option Kind} {cause : Cause} → ExprFails s x cause → ItemFails s (item.Value x name after) cause
   -- an item is a value, and of the kind after AS
   condition : {s : Scope} {x : Expr} {name : Option (List ℕ)} {after : Option Kind} {v : PlanExpr} → Resolves s x v Condition → ItemFails s (item.Value x name after) WrongType
   other_kind : {s : Scope} {x : Expr} {name : Option (List ℕ)} {j k : Kind} {v : PlanExpr} → Resolves s x v (Of k) → j ≢ k → ItemFails s (item.Value x name (Some j)) WrongType
 
 -- the items one after another
-pub data ItemsMake (s : Scope) : List Item → List PlanExpr → List Col → Type 0 where
+pub data ItemsMake (s : Scope) : List Item → List PlanExpr → List ScopeColumn → Type 0 where
   none : ItemsMake s [] [] []
-  more : {i : Item} {is : List Item} {xs ys : List PlanExpr} {cs ds : List Col} → ItemMakes s i xs cs → ItemsMake s is ys ds → ItemsMake s (i ∷ is) (xs ++ ys) (cs ++ ds)
+  more : {i : Item} {is : List Item} {xs ys : List PlanExpr} {cs ds : List ScopeColumn} → ItemMakes s i xs cs → ItemsMake s is ys ds → ItemsMake s (i ∷ is) (xs ++ ys) (cs ++ ds)
 
 -- of the items the first that fails
 pub data ItemsFail (s : Scope) : List Item → Cause → Type 0 where
   here : {i : Item} {is : List Item} {cause : Cause} → ItemFails s i cause → ItemsFail s (i ∷ is) cause
-  after : {i : Item} {is : List Item} {xs : List PlanExpr} {cs : List Col} {cause : Cause} → ItemMakes s i xs cs → ItemsFail s is cause → ItemsFail s (i ∷ is) cause
+  after : {i : Item} {is : List Item} {xs : List PlanExpr} {cs : List ScopeColumn} {cause : Cause} → ItemMakes s i xs cs → ItemsFail s is cause → ItemsFail s (i ∷ is) cause

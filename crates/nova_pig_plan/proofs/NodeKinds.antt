@@ -10,7 +10,7 @@ use Rattle.nova_pig_algebra.specs.declared.node.Node.TheVariants as node
 use Rattle.nova_pig_algebra.specs.declared.node.Sort.{Sort}
 use Rattle.nova_pig_algebra.specs.declared.node.Sort.TheVariants.{Of, Condition}
 use Rattle.nova_pig_plan.specs.declared.fault.Cause.TheVariants as fault
-use Rattle.nova_pig_plan.specs.declared.scope.Col.{Col}
+use Rattle.nova_pig_plan.specs.declared.scope.ScopeColumn.{ScopeColumn}
 use Rattle.nova_pig_plan.specs.declared.scope.Scope.{Scope}
 use Rattle.nova_pig_plan.specs.declared.scope.Scope.TheVariants.{Rows, Group}
 use Rattle.nova_pig_plan.specs.declared.scope.Typed.{Typed}
@@ -59,19 +59,19 @@ module _ (ch : Channels) (done : Aliases) where
       step (Ok x) e = go x.0 x.1 (known_at name done x.0 x.1 e)
       step (Err c) e = tt
 
-  pub on_rows : (s : Scope) (next : List Col → Answer Defined) → ((cs : List Col) → s ≡ Rows cs → Kinded ch done (next cs)) → Kinded ch done (first (ungrouped s) next)
+  pub on_rows : (s : Scope) (next : List ScopeColumn → Answer Defined) → ((cs : List ScopeColumn) → s ≡ Rows cs → Kinded ch done (next cs)) → Kinded ch done (first (ungrouped s) next)
   on_rows (Rows cs) next go = go cs refl
   on_rows (Group bag by cs) next go = tt
 
   pub filter_kinded : (from : List ℕ) (x : Expr) → Kinded ch done (filter_rows done from x)
   filter_kinded from x = on_known from _ (λ k s at. on_rows s _ (λ cs is. step k cs (at ∙ ap (λ z. Some (over z)) is) (expr_of (Rows cs) x) (expr_sorted (Rows cs) x)))
     where
-      checked : (k : ℕ) (cs : List Col) → slice_get (overs done) k ≡ Some (Row (kinds cs)) → (t : Typed) → sort_of (Row (kinds cs)) t.expr ≡ Some t.sort → (b : Bool) → is_condition t.sort ≡ b
+      checked : (k : ℕ) (cs : List ScopeColumn) → slice_get (overs done) k ≡ Some (Row (kinds cs)) → (t : Typed) → sort_of (Row (kinds cs)) t.expr ≡ Some t.sort → (b : Bool) → is_condition t.sort ≡ b
           → Kinded ch done (if_not fault.WrongType b (record { node = node.Filter k t.expr; scope = Rows cs }))
       checked k cs at t h true is = ap (filter_over t.expr) at ∙ ap (λ o. if has is_condition o then Some (Row (kinds cs)) else None) h ∙ ap (λ b. if b then Some (Row (kinds cs)) else None) is
       checked k cs at t h false is = tt
 
-      step : (k : ℕ) (cs : List Col) → slice_get (overs done) k ≡ Some (Row (kinds cs)) → (a : Answer Typed) → Sorted (Row (kinds cs)) a
+      step : (k : ℕ) (cs : List ScopeColumn) → slice_get (overs done) k ≡ Some (Row (kinds cs)) → (a : Answer Typed) → Sorted (Row (kinds cs)) a
           → Kinded ch done (first a (λ t. if_not fault.WrongType (is_condition t.sort) (record { node = node.Filter k t.expr; scope = Rows cs })))
       step k cs at (Ok t) h = checked k cs at t h (is_condition t.sort) refl
       step k cs at (Err c) h = tt
@@ -84,7 +84,7 @@ abbrev MadeKinded : Over → Answer Made → Type 0
 MadeKinded o (Ok m) = item_kinds o m.exprs ≡ Some (kinds m.columns)
 MadeKinded o (Err c) = Unit {0}
 
-kinds_more : (cs : List Col) (c : Col) → kinds (cs ++ c ∷ []) ≡ kinds cs ++ c.kind ∷ []
+kinds_more : (cs : List ScopeColumn) (c : ScopeColumn) → kinds (cs ++ c ∷ []) ≡ kinds cs ++ c.kind ∷ []
 kinds_more [] c = refl
 kinds_more (d ∷ cs) c = ap (λ ks. d.kind ∷ ks) (kinds_more cs c)
 
@@ -107,7 +107,7 @@ module _ (o : Over) where
       step (Some Condition) l g rest = absurd cc
       step None l g rest = absurd cc
 
-  one_more : (m : Made) (e : PlanExpr) (c : Col) → sort_of o e ≡ Some (Of c.kind) → MadeKinded o (Ok m) → MadeKinded o (Ok (with_item m e c))
+  one_more : (m : Made) (e : PlanExpr) (c : ScopeColumn) → sort_of o e ≡ Some (Of c.kind) → MadeKinded o (Ok m) → MadeKinded o (Ok (with_item m e c))
   one_more m e c is h = more e c.kind is m.exprs (kinds m.columns) h ∙ ap Some (sym (kinds_more m.columns c))
 
   value_kinded : (s : Scope) → over s ≡ o → (m : Made) (x : Expr) (name : Option (List ℕ)) (k : Option Kind) → MadeKinded o (Ok m) → MadeKinded o (value_of s m x name k)
@@ -124,14 +124,14 @@ module _ (o : Over) where
       step (Ok t) g = kind_step t g t.sort (value_kind t.sort k) refl refl
       step (Err c) g = tt
 
-all_kinded : (ks : List Kind) (n : ℕ) (m : Made) (cs : List Col) → ((i : ℕ) → slice_get ks (n + i) ≡ slice_get (kinds cs) i) → MadeKinded (Row ks) (Ok m) → MadeKinded (Row ks) (Ok (with_all n m cs))
+all_kinded : (ks : List Kind) (n : ℕ) (m : Made) (cs : List ScopeColumn) → ((i : ℕ) → slice_get ks (n + i) ≡ slice_get (kinds cs) i) → MadeKinded (Row ks) (Ok m) → MadeKinded (Row ks) (Ok (with_all n m cs))
 all_kinded ks n m [] at h = h
 all_kinded ks n m (c ∷ cs) at h =
     all_kinded ks (suc n) (with_item m (p.Col n) c) cs
     (λ i. ap (slice_get ks) (omega arith) ∙ at (suc i))
     (one_more (Row ks) m (p.Col n) c (sort-Col (Row ks) n ∙ ap of_kind (ap (slice_get ks) (omega arith) ∙ at 0)) h)
 
-flat_kinded : (ks js : List Kind) (n : ℕ) (m : Made) (cs : List Col) → ((i : ℕ) → slice_get ks (n + i) ≡ slice_get (kinds cs) i) → MadeKinded (Bag ks js) (Ok m) → MadeKinded (Bag ks js) (Ok (with_flat n m cs))
+flat_kinded : (ks js : List Kind) (n : ℕ) (m : Made) (cs : List ScopeColumn) → ((i : ℕ) → slice_get ks (n + i) ≡ slice_get (kinds cs) i) → MadeKinded (Bag ks js) (Ok m) → MadeKinded (Bag ks js) (Ok (with_flat n m cs))
 flat_kinded ks js n m [] at h = h
 flat_kinded ks js n m (c ∷ cs) at h =
     flat_kinded ks js (suc n) (with_item m (p.GroupCol n) _) cs
@@ -141,7 +141,7 @@ flat_kinded ks js n m (c ∷ cs) at h =
 from_0 : (ks : List Kind) (i : ℕ) → slice_get ks (0 + i) ≡ slice_get ks i
 from_0 ks i = ap (slice_get ks) (omega arith)
 
-flattened_kinded : (by : List Col) (js : List Kind) (m : Made) → MadeKinded (Bag (kinds by) js) (Ok m) → MadeKinded (Bag (kinds by) js) (Ok (flattened m by))
+flattened_kinded : (by : List ScopeColumn) (js : List Kind) (m : Made) → MadeKinded (Bag (kinds by) js) (Ok m) → MadeKinded (Bag (kinds by) js) (Ok (flattened m by))
 flattened_kinded [] js m h = h
 flattened_kinded (c ∷ []) js m h = one_more (Bag (kinds (c ∷ [])) js) m (p.GroupCol 0) _ (sort-GroupCol (Bag (kinds (c ∷ [])) js) 0) h
 flattened_kinded (c ∷ d ∷ by) js m h = flat_kinded (kinds (c ∷ d ∷ by)) js 0 m (c ∷ d ∷ by) (from_0 (kinds (c ∷ d ∷ by))) h

@@ -1,6 +1,6 @@
 -- Places of columns, one column after another.
 use Rattle.std.proofs.Common.{◌≡◌, ℕ, Bool, List, [], ◌∷◌, ◌++◌, drop, Option, Some, None}
-use Rattle.nova_pig_plan.specs.declared.scope.Col.{Col}
+use Rattle.nova_pig_plan.specs.declared.scope.ScopeColumn.{ScopeColumn}
 use Rattle.nova_pig_plan.specs.Columns.{places}
 
 abbrev pub held : Option ℕ → List ℕ
@@ -8,5 +8,5 @@ held None = []
 held (Some k) = k ∷ []
 
 -- what is found, and the places from i on, are all places
-abbrev pub Sought : (Col → Bool) → List Col → Option ℕ → ℕ → Type 0
+abbrev pub Sought : (ScopeColumn → Bool) → List ScopeColumn → Option ℕ → ℕ → Type 0
 Sought fits cs found i = places fits 0 cs ≡ held found ++ places fits i (drop i cs)

@@ -12,7 +12,7 @@ use Rattle.nova_pig_tree.specs.declared.statement.Statement.{Statement}
 use Rattle.nova_pig_algebra.specs.declared.node.Node.{Node}
 use Rattle.nova_pig_plan.specs.declared.fault.Cause.{Cause}
 use Rattle.nova_pig_plan.specs.declared.fault.Cause.TheVariants as fault
-use Rattle.nova_pig_plan.specs.declared.scope.Col.{Col}
+use Rattle.nova_pig_plan.specs.declared.scope.ScopeColumn.{ScopeColumn}
 use Rattle.nova_pig_plan.specs.declared.scope.Scope.{Scope}
 use Rattle.nova_pig_plan.specs.declared.scope.Scope.TheVariants.{Rows, Group}
 use Rattle.nova_pig_plan.specs.declared.scope.Defined.{Defined}
@@ -23,7 +23,7 @@ use Rattle.nova_pig_plan.specs.Columns.{same_text, field_of}
 use Rattle.nova_pig_plan.specs.Items.{same_kind, column_at}
 use Rattle.nova_value.specs.Rows.{Shape}
 use Rattle.nova_pig_algebra.specs.declared.node.Node.TheVariants as node
-use Rattle.nova_pig_plan.specs.Plans.{all_known, all_alike, none_grouped, first_rows, rows_of, defined, fields_of, columns_at, same_kinds_at, from_alias, find, some_or, Aliases, fresh, known, ungrouped, load, group, join, union, op_of, define, store, test, same_kinds, channel_columns, statement_of, at_statement, graph, graph_after, graph_of}
+use Rattle.nova_pig_plan.specs.Plans.{all_known, all_alike, none_grouped, first_rows, row_columns, defined, fields_of, columns_at, same_kinds_at, from_alias, find, some_or, Aliases, fresh, known, ungrouped, load, group, join, union, op_of, define, store, test, same_kinds, channel_columns, statement_of, at_statement, graph, graph_after, graph_of}
 use Rattle.nova_pig_plan.specs.Sorts.{Over, Row, over, kinds}
 use Rattle.nova_pig_plan.specs.Kinded.{are_rows, all_rows, union_over, and_kind, kinds_at, as_bag, same_list, group_over, join_over, as_rows, node_over, overs, input_kinds, Kinded, nodes_over, and_then, output_over, IsKinded}
 use Rattle.nova_pig_plan.proofs.Sorted.{field_within}
@@ -39,7 +39,7 @@ both_true : (a b : Bool) → (a && b) ≡ true → (a ≡ true) × (b ≡ true)
 both_true true b e = (refl, e)
 both_true false b e = absurd cc
 
-one_list : (cs ds : List Col) → same_kinds cs ds ≡ true → kinds cs ≡ kinds ds
+one_list : (cs ds : List ScopeColumn) → same_kinds cs ds ≡ true → kinds cs ≡ kinds ds
 one_list [] [] e = refl
 one_list [] (d ∷ ds) e = absurd cc
 one_list (c ∷ cs) [] e = absurd cc
@@ -59,24 +59,24 @@ load_kinded ch done channel = step (find channel 0 ch.inputs) refl
         ap as_rows (subst (λ i. slice_get (input_kinds ch) i ≡ Some (map (λ c. c.kind) x.1.columns)) at r.1.1) ∙ ap (λ ks. Some (Row ks)) (sym (channel_kinds x.1.columns))
     step None e = tt
 
-abbrev AllIn : List Col → List ℕ → Type 0
+abbrev AllIn : List ScopeColumn → List ℕ → Type 0
 AllIn cs [] = Unit {0}
 AllIn cs (k ∷ ks) = (k < length cs) × AllIn cs ks
 
-column_got : (cs : List Col) (k : ℕ) → k < length cs → slice_get (kinds cs) k ≡ Some (column_at cs k).kind
+column_got : (cs : List ScopeColumn) (k : ℕ) → k < length cs → slice_get (kinds cs) k ≡ Some (column_at cs k).kind
 column_got [] k lt = absurd (omega arith)
 column_got (c ∷ cs) zero lt = refl
 column_got (c ∷ cs) (suc k) lt = column_got cs k (omega arith)
 
-all_got : (cs : List Col) (ks : List ℕ) → AllIn cs ks → kinds_at (kinds cs) ks ≡ Some (kinds (columns_at cs ks))
+all_got : (cs : List ScopeColumn) (ks : List ℕ) → AllIn cs ks → kinds_at (kinds cs) ks ≡ Some (kinds (columns_at cs ks))
 all_got cs [] h = refl
 all_got cs (k ∷ ks) h = let a = column_got cs k h.0 in let b = all_got cs ks h.1 in λ i. and_kind (a i) (b i)
 
-in_more : (cs : List Col) (ks : List ℕ) (k : ℕ) → AllIn cs ks → k < length cs → AllIn cs (ks ++ k ∷ [])
+in_more : (cs : List ScopeColumn) (ks : List ℕ) (k : ℕ) → AllIn cs ks → k < length cs → AllIn cs (ks ++ k ∷ [])
 in_more cs [] k h lt = (lt, tt)
 in_more cs (j ∷ ks) k h lt = (h.0, in_more cs ks k h.1 lt)
 
-fields_in : (cs : List Col) (ks : List ℕ) (fs : List Field) (r : List ℕ) → AllIn cs ks → fields_of cs ks fs ≡ Ok r → AllIn cs r
+fields_in : (cs : List ScopeColumn) (ks : List ℕ) (fs : List Field) (r : List ℕ) → AllIn cs ks → fields_of cs ks fs ≡ Ok r → AllIn cs r
 fields_in cs ks [] r h e = let same : ks ≡ r = cc in subst (AllIn cs) same h
 fields_in cs ks (f ∷ fs) r h e = step (field_of cs f) refl e (λ k lt g. fields_in cs (ks ++ k ∷ []) fs r (in_more cs ks k h lt) g)
   where
@@ -84,7 +84,7 @@ fields_in cs ks (f ∷ fs) r h e = step (field_of cs f) refl e (λ k lt g. field
     step (Ok k) is g go = go k (field_within cs f k is) g
     step (Err c) is g go = absurd cc
 
-fields_got : (cs : List Col) (fs : List Field) (r : List ℕ) → fields_of cs [] fs ≡ Ok r → kinds_at (kinds cs) r ≡ Some (kinds (columns_at cs r))
+fields_got : (cs : List ScopeColumn) (fs : List Field) (r : List ℕ) → fields_of cs [] fs ≡ Ok r → kinds_at (kinds cs) r ≡ Some (kinds (columns_at cs r))
 fields_got cs fs r e = all_got cs r (fields_in cs [] fs r tt e)
 
 same_self : (ks : List Kind) → same_list (Some ks) (Some ks) ≡ true
@@ -92,18 +92,18 @@ same_self [] = refl
 same_self (kind.Long ∷ ks) = same_self ks
 same_self (kind.Text ∷ ks) = same_self ks
 
-from_kinds : (alias : List ℕ) (cs : List Col) → kinds (from_alias alias cs) ≡ kinds cs
+from_kinds : (alias : List ℕ) (cs : List ScopeColumn) → kinds (from_alias alias cs) ≡ kinds cs
 from_kinds alias [] = refl
 from_kinds alias (c ∷ cs) = ap (λ ks. c.kind ∷ ks) (from_kinds alias cs)
 
-both_kinds : (cs ds : List Col) → kinds (cs ++ ds) ≡ kinds cs ++ kinds ds
+both_kinds : (cs ds : List ScopeColumn) → kinds (cs ++ ds) ≡ kinds cs ++ kinds ds
 both_kinds [] ds = refl
 both_kinds (c ∷ cs) ds = ap (λ ks. c.kind ∷ ks) (both_kinds cs ds)
 
 group_kinded : (ch : Channels) (done : Aliases) (from : List ℕ) (by : List Field) → Kinded ch done (group done from by)
 group_kinded ch done from by = on_known ch done from _ (λ k s at. on_rows ch done s _ (λ cs is. step k cs (at ∙ ap (λ z. Some (over z)) is) (fields_of cs [] by) refl))
   where
-    step : (k : ℕ) (cs : List Col) → slice_get (overs done) k ≡ Some (Row (kinds cs)) → (a : Answer (List ℕ)) → fields_of cs [] by ≡ a
+    step : (k : ℕ) (cs : List ScopeColumn) → slice_get (overs done) k ≡ Some (Row (kinds cs)) → (a : Answer (List ℕ)) → fields_of cs [] by ≡ a
         → Kinded ch done (first a (λ ks. Ok (record { node = node.Group k ks; scope = Group from (columns_at cs ks) cs })))
     step k cs at (Ok ks) e = ap (group_over ks) at ∙ ap (as_bag (kinds cs)) (fields_got cs by ks e)
     step k cs at (Err c) e = tt
@@ -113,7 +113,7 @@ join_kinded ch done l lb r rb =
     on_known ch done l _ (λ k s at. on_known ch done r _ (λ j t is. on_rows ch done s _ (λ cs a. on_rows ch done t _ (λ ds b.
     step k cs (at ∙ ap (λ z. Some (over z)) a) j ds (is ∙ ap (λ z. Some (over z)) b) (fields_of cs [] lb) refl (fields_of ds [] rb) refl))))
   where
-    last : (k : ℕ) (cs : List Col) → slice_get (overs done) k ≡ Some (Row (kinds cs)) → (j : ℕ) (ds : List Col) → slice_get (overs done) j ≡ Some (Row (kinds ds))
+    last : (k : ℕ) (cs : List ScopeColumn) → slice_get (overs done) k ≡ Some (Row (kinds cs)) → (j : ℕ) (ds : List ScopeColumn) → slice_get (overs done) j ≡ Some (Row (kinds ds))
         → (ks js : List ℕ) → fields_of cs [] lb ≡ Ok ks → fields_of ds [] rb ≡ Ok js → (b c d : Bool) → same_kinds_at cs ds ks js ≡ c
         → Kinded ch done (first (test fault.SchemaDiffers b) (λ _. first (test fault.WrongType c) (λ _. if_not fault.TooWide d (record { node = node.Join k ks j js; scope = Rows (from_alias l cs ++ from_alias r ds) }))))
     last k cs at j ds is ks js e f false c d g = tt
@@ -126,7 +126,7 @@ join_kinded ch done l lb r rb =
         ∙ ap (λ z. if z then Some (Row (kinds cs ++ kinds ds)) else None) (same_self (kinds (columns_at ds js)))
         ∙ ap (λ z. Some (Row z)) (sym (both_kinds (from_alias l cs) (from_alias r ds) ∙ (λ i. from_kinds l cs i ++ from_kinds r ds i)))
 
-    step : (k : ℕ) (cs : List Col) → slice_get (overs done) k ≡ Some (Row (kinds cs)) → (j : ℕ) (ds : List Col) → slice_get (overs done) j ≡ Some (Row (kinds ds))
+    step : (k : ℕ) (cs : List ScopeColumn) → slice_get (overs done) k ≡ Some (Row (kinds cs)) → (j : ℕ) (ds : List ScopeColumn) → slice_get (overs done) j ≡ Some (Row (kinds ds))
         → (a : Answer (List ℕ)) → fields_of cs [] lb ≡ a → (b : Answer (List ℕ)) → fields_of ds [] rb ≡ b
         → Kinded ch done (first a (λ ks. first b (λ js. first (test fault.SchemaDiffers (nat_eq (length ks) (length js))) (λ _. first (test fault.WrongType (same_kinds_at cs ds ks js)) (λ _.
         defined (node.Join k ks j js) (from_alias l cs ++ from_alias r ds))))))
@@ -139,11 +139,11 @@ module _ (done : Aliases) where
   rows_more ks [] k h g = ap (λ b. b && true) g
   rows_more ks (j ∷ acc) k h g = let r = both_true (are_rows ks (slice_get (overs done) j)) (all_rows (overs done) ks acc) h in let a = r.0 in let b = rows_more ks acc k r.1 g in λ i. a i && b i
 
-  alike_arms : (cs : List Col) (arms : List (List ℕ)) (acc ks : List ℕ) (u : Unit {0}) → all_rows (overs done) (kinds cs) acc ≡ true → all_known done acc arms ≡ Ok ks → all_alike done cs arms ≡ Ok u → all_rows (overs done) (kinds cs) ks ≡ true
+  alike_arms : (cs : List ScopeColumn) (arms : List (List ℕ)) (acc ks : List ℕ) (u : Unit {0}) → all_rows (overs done) (kinds cs) acc ≡ true → all_known done acc arms ≡ Ok ks → all_alike done cs arms ≡ Ok u → all_rows (overs done) (kinds cs) ks ≡ true
   alike_arms cs [] acc ks u h e f = let same : acc ≡ ks = cc in subst (λ z. all_rows (overs done) (kinds cs) z ≡ true) same h
   alike_arms cs (a ∷ rest) acc ks u h e f = step (known done a) refl e f (λ k g e f. alike_arms cs rest (acc ++ k ∷ []) ks u g e f)
     where
-      tested : (k : ℕ) (ds : List Col) → slice_get (overs done) k ≡ Some (Row (kinds ds)) → all_known done (acc ++ k ∷ []) rest ≡ Ok ks → (b : Bool) → same_kinds cs ds ≡ b
+      tested : (k : ℕ) (ds : List ScopeColumn) → slice_get (overs done) k ≡ Some (Row (kinds ds)) → all_known done (acc ++ k ∷ []) rest ≡ Ok ks → (b : Bool) → same_kinds cs ds ≡ b
           → first (test fault.SchemaDiffers b) (λ _. all_alike done cs rest) ≡ Ok u
           → ((k : ℕ) → all_rows (overs done) (kinds cs) (acc ++ k ∷ []) ≡ true → all_known done (acc ++ k ∷ []) rest ≡ Ok ks → all_alike done cs rest ≡ Ok u → all_rows (overs done) (kinds cs) ks ≡ true)
           → all_rows (overs done) (kinds cs) ks ≡ true
@@ -174,7 +174,7 @@ module _ (done : Aliases) where
       step (Err c) g go = absurd cc
 
   -- the first arm's place has the first arm's columns
-  heads : (a : List ℕ) (rest : List (List ℕ)) (ks : List ℕ) (cs : List Col) → all_known done [] (a ∷ rest) ≡ Ok ks → rows_of done a ≡ Ok cs → (k : ℕ) × ((more : List ℕ) × ((ks ≡ k ∷ more) × (slice_get (overs done) k ≡ Some (Row (kinds cs)))))
+  heads : (a : List ℕ) (rest : List (List ℕ)) (ks : List ℕ) (cs : List ScopeColumn) → all_known done [] (a ∷ rest) ≡ Ok ks → row_columns done a ≡ Ok cs → (k : ℕ) × ((more : List ℕ) × ((ks ≡ k ∷ more) × (slice_get (overs done) k ≡ Some (Row (kinds cs)))))
   heads a rest ks cs e f = step (known done a) refl e f
     where
       scope : (s : Scope) → ungrouped s ≡ Ok cs → over s ≡ Row (kinds cs)
@@ -188,7 +188,7 @@ module _ (done : Aliases) where
 union_kinded : (ch : Channels) (done : Aliases) (arms : List (List ℕ)) → Kinded ch done (union done arms)
 union_kinded ch done arms = known_step (all_known done [] arms) refl
   where
-    node_kinds : (bs : List (List ℕ)) (ks : List ℕ) (cs : List Col) (u : Unit {0}) → all_known done [] bs ≡ Ok ks → first_rows done bs ≡ Ok cs → all_alike done cs bs ≡ Ok u → node_over (input_kinds ch) (overs done) (node.Union ks) ≡ Some (Row (kinds cs))
+    node_kinds : (bs : List (List ℕ)) (ks : List ℕ) (cs : List ScopeColumn) (u : Unit {0}) → all_known done [] bs ≡ Ok ks → first_rows done bs ≡ Ok cs → all_alike done cs bs ≡ Ok u → node_over (input_kinds ch) (overs done) (node.Union ks) ≡ Some (Row (kinds cs))
     node_kinds [] ks cs u e f g =
         let a : [] ≡ ks = cc in
         let b : [] ≡ cs = cc in
@@ -200,11 +200,11 @@ union_kinded ch done arms = known_step (all_known done [] arms) refl
         ∙ ap (union_over (overs done) (h.0 ∷ h.1.0)) h.1.1.1
         ∙ ap (λ z. if z then Some (Row (kinds cs)) else None) (ap (all_rows (overs done) (kinds cs)) (sym h.1.1.0) ∙ all)
 
-    alike_step : (ks : List ℕ) → all_known done [] arms ≡ Ok ks → (cs : List Col) → first_rows done arms ≡ Ok cs → (a : Answer (Unit {0})) → all_alike done cs arms ≡ a → Kinded ch done (first a (λ _. Ok (record { node = node.Union ks; scope = Rows cs })))
+    alike_step : (ks : List ℕ) → all_known done [] arms ≡ Ok ks → (cs : List ScopeColumn) → first_rows done arms ≡ Ok cs → (a : Answer (Unit {0})) → all_alike done cs arms ≡ a → Kinded ch done (first a (λ _. Ok (record { node = node.Union ks; scope = Rows cs })))
     alike_step ks e cs f (Ok u) g = node_kinds arms ks cs u e f g
     alike_step ks e cs f (Err c) g = tt
 
-    rows_step : (ks : List ℕ) → all_known done [] arms ≡ Ok ks → (a : Answer (List Col)) → first_rows done arms ≡ a → Kinded ch done (first a (λ cs. first (all_alike done cs arms) (λ _. Ok (record { node = node.Union ks; scope = Rows cs }))))
+    rows_step : (ks : List ℕ) → all_known done [] arms ≡ Ok ks → (a : Answer (List ScopeColumn)) → first_rows done arms ≡ a → Kinded ch done (first a (λ cs. first (all_alike done cs arms) (λ _. Ok (record { node = node.Union ks; scope = Rows cs }))))
     rows_step ks e (Ok cs) f = alike_step ks e cs f (all_alike done cs arms) refl
     rows_step ks e (Err c) f = tt
 
@@ -255,7 +255,7 @@ store_kinded ch done alias channel k e = step (known done alias) refl e
         → slice_get (overs done) k ≡ Some (output_over ch)
     last i s at h = named (same_text channel ch.output.0) h
       where
-        alike : (cs : List Col) → s ≡ Rows cs → (b : Bool) → same_kinds cs (channel_columns ch.output.1.columns) ≡ b → if_not fault.SchemaDiffers b i ≡ Ok k → slice_get (overs done) k ≡ Some (output_over ch)
+        alike : (cs : List ScopeColumn) → s ≡ Rows cs → (b : Bool) → same_kinds cs (channel_columns ch.output.1.columns) ≡ b → if_not fault.SchemaDiffers b i ≡ Ok k → slice_get (overs done) k ≡ Some (output_over ch)
         alike cs is true same g =
             let place : i ≡ k = cc in
             subst (λ j. slice_get (overs done) j ≡ Some (output_over ch)) place (at ∙ ap (λ z. Some (over z)) is ∙ ap (λ ks. Some (Row ks)) (one_list cs (channel_columns ch.output.1.columns) same ∙ channel_kinds ch.output.1.columns))

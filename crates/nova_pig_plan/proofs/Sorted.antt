@@ -19,7 +19,7 @@ use Rattle.nova_pig_algebra.specs.declared.node.PlanExpr.TheFolds.{fold-roll-Pla
 use Rattle.nova_pig_algebra.specs.declared.node.Sort.{Sort}
 use Rattle.nova_pig_algebra.specs.declared.node.Sort.TheVariants.{Condition}
 use Rattle.nova_pig_plan.specs.declared.fault.Cause.TheVariants as fault
-use Rattle.nova_pig_plan.specs.declared.scope.Col.{Col}
+use Rattle.nova_pig_plan.specs.declared.scope.ScopeColumn.{ScopeColumn}
 use Rattle.nova_pig_plan.specs.declared.scope.Scope.{Scope}
 use Rattle.nova_pig_plan.specs.declared.scope.Scope.TheVariants.{Rows, Group}
 use Rattle.nova_pig_plan.specs.declared.scope.Typed.{Typed}
@@ -89,7 +89,7 @@ only n k [] e = cc
 only n k (j ∷ r) e = absurd cc
 
 -- a place that is answered is within the columns
-within : (fits : Col → Bool) (n : ℕ) (cs : List Col) (k : ℕ) → the_one (places fits n cs) ≡ Ok k → (n ≤ k) × (k < n + length cs)
+within : (fits : ScopeColumn → Bool) (n : ℕ) (cs : List ScopeColumn) (k : ℕ) → the_one (places fits n cs) ≡ Ok k → (n ≤ k) × (k < n + length cs)
 within fits n [] k e = absurd cc
 within fits n (c ∷ cs) k e = step (fits c) e (within fits (suc n) cs k)
   where
@@ -98,7 +98,7 @@ within fits n (c ∷ cs) k e = step (fits c) e (within fits (suc n) cs k)
     step true e rest = let is : n ≡ k = only n k (places fits (suc n) cs) e in (omega (arith, is), omega (arith, is))
     step false e rest = let r = rest e in (omega (arith, r.0), omega (arith, r.1))
 
-kind_got : (cs : List Col) (k : ℕ) → k < length cs → slice_get (kinds cs) k ≡ Some (kind_at cs k)
+kind_got : (cs : List ScopeColumn) (k : ℕ) → k < length cs → slice_get (kinds cs) k ≡ Some (kind_at cs k)
 kind_got [] k lt = absurd (omega arith)
 kind_got (c ∷ cs) zero lt = refl
 kind_got (c ∷ cs) (suc k) lt = kind_got cs k (omega arith)
@@ -138,7 +138,7 @@ module _ (o : Over) where
   choice_sorted : (c x y : Typed) → Has c → Has x → Has y → Sorted o (choice c x y)
   choice_sorted c x y g h k = checked (is_condition c.sort && are_alike x.sort y.sort) _ (λ e. sort-If o c.expr x.expr y.expr ∙ (λ i. chosen (has is_condition (g i) && are are_alike (h i) (k i)) (h i)) ∙ ap (λ b. chosen b (Some x.sort)) e)
 
-pub field_within : (cs : List Col) (f : Field) (k : ℕ) → field_of cs f ≡ Ok k → k < length cs
+pub field_within : (cs : List ScopeColumn) (f : Field) (k : ℕ) → field_of cs f ≡ Ok k → k < length cs
 field_within cs (field.Plain name) k e = let r = within (is_named name) 0 cs k e in omega (arith, r.1)
 field_within cs (field.Of alias name) k e = let r = within (comes_from alias name) 0 cs k e in omega (arith, r.1)
 field_within cs (field.GroupOf name) k e = absurd cc
@@ -148,19 +148,19 @@ field_within cs (field.At n) k e = step (nat_lt n (length cs)) refl e
     step true is h = let same : n ≡ k = cc in grind (arith, nat_tests, is, same)
     step false is h = absurd cc
 
-column_sorted : (cs : List Col) (f : Field) → Sorted (Row (kinds cs)) (first (field_of cs f) (λ k. Ok (column_place cs k)))
+column_sorted : (cs : List ScopeColumn) (f : Field) → Sorted (Row (kinds cs)) (first (field_of cs f) (λ k. Ok (column_place cs k)))
 column_sorted cs f = step (field_of cs f) refl
   where
     step : (a : Answer ℕ) → field_of cs f ≡ a → Sorted (Row (kinds cs)) (first a (λ k. Ok (column_place cs k)))
     step (Ok k) e = sort-Col (Row (kinds cs)) k ∙ ap of_kind (kind_got cs k (field_within cs f k e))
     step (Err c) e = tt
 
-whole_sorted : (by : List Col) (ks : List Kind) → Sorted (Bag (kinds by) ks) (whole_group by)
+whole_sorted : (by : List ScopeColumn) (ks : List Kind) → Sorted (Bag (kinds by) ks) (whole_group by)
 whole_sorted [] ks = tt
 whole_sorted (c ∷ []) ks = sort-GroupCol (Bag (kinds (c ∷ [])) ks) 0
 whole_sorted (c ∷ d ∷ by) ks = tt
 
-group_sorted : (bag : List ℕ) (by : List Col) (ks : List Kind) (f : Field) → Sorted (Bag (kinds by) ks) (group_field bag by f)
+group_sorted : (bag : List ℕ) (by : List ScopeColumn) (ks : List Kind) (f : Field) → Sorted (Bag (kinds by) ks) (group_field bag by f)
 group_sorted bag by ks (field.Plain name) = step (same_text name group_name) (same_text name bag)
   where
     step : (a b : Bool) → Sorted (Bag (kinds by) ks) (if a then whole_group by else if b then Err fault.BagMisused else Err fault.UnknownField)
@@ -194,7 +194,7 @@ agg_sorted by ks call.Sum kind.Text k e = tt
 agg_sorted by ks call.Min j k e = sort-Agg (Bag by ks) call.Min (Some k) ∙ ap (column_agg call.Min) e
 agg_sorted by ks call.Max j k e = sort-Agg (Bag by ks) call.Max (Some k) ∙ ap (column_agg call.Max) e
 
-field_sorted : (by : List Kind) (cs : List Col) (c : CallKind) (f : Option Field) → Sorted (Bag by (kinds cs)) (call_field cs c f)
+field_sorted : (by : List Kind) (cs : List ScopeColumn) (c : CallKind) (f : Option Field) → Sorted (Bag by (kinds cs)) (call_field cs c f)
 field_sorted by cs c None = bag_sorted by (kinds cs) c
 field_sorted by cs c (Some f) = step (field_of cs f) refl
   where

@@ -1,5 +1,5 @@
 -- Items of which one too many is kept are all items, or both are too wide.
-use Rattle.std.specs.Prelude.{◌≡◌, ◌⊎◌, ◌<◌, ℕ, suc, Bool, true, false, nat_lt, nat_le, if◌then◌else◌, List, [], ◌∷◌, ◌++◌, length, Option, Some, None, Ok, Err, refl}
+use Rattle.std.specs.Prelude.{◌≡◌, ◌⊎◌, ◌<◌, ℕ, suc, Bool, true, false, nat_le, if◌then◌else◌, List, [], ◌∷◌, length, Option, Some, None, Ok, Err, refl}
 use Rattle.std.proofs.Common.{ap, sym, ◌∙◌, inl, inr, subst, arith, length-append}
 use Rattle.std.proofs.lemmas.Bool.Decides.{nat_tests}
 use Rattle.nova_value.specs.declared.value.Kind.{Kind}
@@ -10,9 +10,8 @@ use Rattle.nova_pig_algebra.specs.declared.node.Node.{Node}
 use Rattle.nova_pig_algebra.specs.declared.node.Node.TheVariants as node
 use Rattle.nova_pig_algebra.specs.declared.node.PlanExpr.{PlanExpr}
 use Rattle.nova_pig_algebra.specs.declared.node.PlanExpr.TheVariants as p
-use Rattle.nova_pig_plan.specs.declared.fault.Cause.{Cause}
 use Rattle.nova_pig_plan.specs.declared.fault.Cause.TheVariants as fault
-use Rattle.nova_pig_plan.specs.declared.scope.Col.{Col}
+use Rattle.nova_pig_plan.specs.declared.scope.ScopeColumn.{ScopeColumn}
 use Rattle.nova_pig_plan.specs.declared.scope.Scope.{Scope}
 use Rattle.nova_pig_plan.specs.declared.scope.Scope.TheVariants.{Rows, Group}
 use Rattle.nova_pig_plan.specs.declared.scope.Made.{Made}
@@ -35,10 +34,10 @@ Same m k = (m ≡ k) ⊎ (IsWide m × IsWide k)
 wide_test : (m : Made) → kept.is_wide m ≡ true → IsWide m
 wide_test m e = grind (arith, nat_tests, e)
 
-wider : (m : Made) (e : PlanExpr) (c : Col) → IsWide m → IsWide (all.with_item m e c)
+wider : (m : Made) (e : PlanExpr) (c : ScopeColumn) → IsWide m → IsWide (all.with_item m e c)
 wider m e c h = let n = length-append m.columns (c ∷ []) in omega (arith, h, n)
 
-with_same : (m k : Made) → Same m k → (e : PlanExpr) (c : Col) → Same (all.with_item m e c) (kept.with_item k e c)
+with_same : (m k : Made) → Same m k → (e : PlanExpr) (c : ScopeColumn) → Same (all.with_item m e c) (kept.with_item k e c)
 with_same m k (inl same) e c = go (kept.is_wide k) refl
   where
     go : (b : Bool) → kept.is_wide k ≡ b → Same (all.with_item m e c) (if b then k else all.with_item k e c)
@@ -50,14 +49,14 @@ with_same m k (inr w) e c = go (kept.is_wide k)
     go true = inr (wider m e c w.0, w.1)
     go false = inr (wider m e c w.0, wider k e c w.1)
 
-all_wider : (n : ℕ) (m : Made) (cs : List Col) → IsWide m → IsWide (all.with_all n m cs)
+all_wider : (n : ℕ) (m : Made) (cs : List ScopeColumn) → IsWide m → IsWide (all.with_all n m cs)
 all_wider n m [] h = h
 all_wider n m (c ∷ cs) h = all_wider (suc n) (all.with_item m (p.Col n) c) cs (wider m (p.Col n) c h)
 
-flat_wider : (n : ℕ) (m : Made) (cs : List Col) → IsWide m → IsWide (all.with_flat n m cs)
+flat_wider : (n : ℕ) (m : Made) (cs : List ScopeColumn) → IsWide m → IsWide (all.with_flat n m cs)
 flat_wider n m [] h = h
 flat_wider n m (c ∷ cs) h =
-    let d = all.col c.kind c.name (Some group_name) in
+    let d = all.column_with c.kind c.name (Some group_name) in
     flat_wider (suc n) (all.with_item m (p.GroupCol n) d) cs (wider m (p.GroupCol n) d h)
 
 -- where the kept ones are too wide, so are all
@@ -65,7 +64,7 @@ both_wide : (m k : Made) → Same m k → IsWide k → IsWide m
 both_wide m k (inl same) h = subst IsWide (sym same) h
 both_wide m k (inr w) h = w.0
 
-all_same : (n : ℕ) (m k : Made) (cs : List Col) → Same m k → Same (all.with_all n m cs) (kept.with_all n k cs)
+all_same : (n : ℕ) (m k : Made) (cs : List ScopeColumn) → Same m k → Same (all.with_all n m cs) (kept.with_all n k cs)
 all_same n m k [] s = s
 all_same n m k (c ∷ cs) s = go (kept.is_wide k) refl (all_same (suc n) (all.with_item m (p.Col n) c) (kept.with_item k (p.Col n) c) cs (with_same m k s (p.Col n) c))
   where
@@ -74,20 +73,20 @@ all_same n m k (c ∷ cs) s = go (kept.is_wide k) refl (all_same (suc n) (all.wi
     go true t rest = let w = wide_test k t in inr (all_wider n m (c ∷ cs) (both_wide m k s w), w)
     go false t rest = rest
 
-flat_same : (n : ℕ) (m k : Made) (cs : List Col) → Same m k → Same (all.with_flat n m cs) (kept.with_flat n k cs)
+flat_same : (n : ℕ) (m k : Made) (cs : List ScopeColumn) → Same m k → Same (all.with_flat n m cs) (kept.with_flat n k cs)
 flat_same n m k [] s = s
 flat_same n m k (c ∷ cs) s =
-    let d = all.col c.kind c.name (Some group_name) in
+    let d = all.column_with c.kind c.name (Some group_name) in
     go (kept.is_wide k) refl (flat_same (suc n) (all.with_item m (p.GroupCol n) d) (kept.with_item k (p.GroupCol n) d) cs (with_same m k s (p.GroupCol n) d))
   where
-    go : (b : Bool) → kept.is_wide k ≡ b → Same (all.with_flat n m (c ∷ cs)) (kept.with_flat (suc n) (kept.with_item k (p.GroupCol n) (all.col c.kind c.name (Some group_name))) cs)
-        → Same (all.with_flat n m (c ∷ cs)) (if b then k else kept.with_flat (suc n) (kept.with_item k (p.GroupCol n) (all.col c.kind c.name (Some group_name))) cs)
+    go : (b : Bool) → kept.is_wide k ≡ b → Same (all.with_flat n m (c ∷ cs)) (kept.with_flat (suc n) (kept.with_item k (p.GroupCol n) (all.column_with c.kind c.name (Some group_name))) cs)
+        → Same (all.with_flat n m (c ∷ cs)) (if b then k else kept.with_flat (suc n) (kept.with_item k (p.GroupCol n) (all.column_with c.kind c.name (Some group_name))) cs)
     go true t rest = let w = wide_test k t in inr (flat_wider n m (c ∷ cs) (both_wide m k s w), w)
     go false t rest = rest
 
-flattened_same : (m k : Made) (by : List Col) → Same m k → Same (all.flattened m by) (kept.flattened k by)
+flattened_same : (m k : Made) (by : List ScopeColumn) → Same m k → Same (all.flattened m by) (kept.flattened k by)
 flattened_same m k [] s = s
-flattened_same m k (c ∷ []) s = with_same m k s (p.GroupCol 0) (all.col c.kind (Some group_name) None)
+flattened_same m k (c ∷ []) s = with_same m k s (p.GroupCol 0) (all.column_with c.kind (Some group_name) None)
 flattened_same m k (c ∷ d ∷ cs) s = flat_same 0 m k (c ∷ d ∷ cs) s
 
 -- answers with one fault, or with such items

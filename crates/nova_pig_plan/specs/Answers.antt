@@ -22,10 +22,10 @@ if_not cause true x = Ok x
 if_not cause false x = Err cause
 
 -- a call answers as defined, or finds no memory
-abbrev pub GivesBy : {A B : Type 0} → (A → B) → Result A Stop → Answer B → Type 0
-GivesBy view (Ok x) answer = answer ≡ Ok (view x)
-GivesBy view (Err (Fault c)) answer = answer ≡ Err c
-GivesBy view (Err NoMemory) answer = Unit {0}
+abbrev pub AnswersBy : {A B : Type 0} → (A → B) → Result A Stop → Answer B → Type 0
+AnswersBy view (Ok x) answer = answer ≡ Ok (view x)
+AnswersBy view (Err (Fault c)) answer = answer ≡ Err c
+AnswersBy view (Err NoMemory) answer = Unit {0}
 
-abbrev pub Gives : {A : Type 0} → Result A Stop → Answer A → Type 0
-Gives r answer = GivesBy (λ x. x) r answer
+abbrev pub AnswersAs : {A : Type 0} → Result A Stop → Answer A → Type 0
+AnswersAs r answer = AnswersBy (λ x. x) r answer

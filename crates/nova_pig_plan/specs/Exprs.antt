@@ -15,7 +15,7 @@ pub use Rattle.nova_pig_algebra.specs.Sorts.{long, is_long, is_condition, are_al
 use Rattle.nova_pig_algebra.specs.declared.node.Sort.{Sort}
 use Rattle.nova_pig_algebra.specs.declared.node.Sort.TheVariants.{Of, Condition}
 use Rattle.nova_pig_plan.specs.declared.fault.Cause.TheVariants as fault
-use Rattle.nova_pig_plan.specs.declared.scope.Col.{Col}
+use Rattle.nova_pig_plan.specs.declared.scope.ScopeColumn.{ScopeColumn}
 use Rattle.nova_pig_plan.specs.declared.scope.Scope.{Scope}
 use Rattle.nova_pig_plan.specs.declared.scope.Scope.TheVariants.{Rows, Group}
 use Rattle.nova_pig_plan.specs.declared.scope.Typed.{Typed}
@@ -30,15 +30,15 @@ abbrev pub group_name : List ℕ
 group_name = 103 ∷ 114 ∷ 111 ∷ 117 ∷ 112 ∷ []
 
 -- a group by several columns isn't a value
-abbrev pub whole_group : List Col → Answer Typed
+abbrev pub whole_group : List ScopeColumn → Answer Typed
 whole_group (c ∷ []) = Ok (typed (p.GroupCol 0) (Of c.kind))
 whole_group _ = Err fault.WrongType
 
-abbrev pub group_place : List Col → ℕ → Typed
+abbrev pub group_place : List ScopeColumn → ℕ → Typed
 group_place by k = typed (p.GroupCol k) (Of (kind_at by k))
 
 -- a reference over a group and outside a call
-abbrev pub group_field : List ℕ → List Col → Field → Answer Typed
+abbrev pub group_field : List ℕ → List ScopeColumn → Field → Answer Typed
 group_field bag by (field.Plain name) = if same_text name group_name then whole_group by else if same_text name bag then Err fault.BagMisused else Err fault.UnknownField
 group_field bag by (field.Of alias name) = Err fault.UnknownField
 group_field bag by (field.GroupOf name) = first (the_one (places (is_named name) 0 by)) (λ k. Ok (group_place by k))
@@ -46,7 +46,7 @@ group_field bag by (field.At zero) = whole_group by
 group_field bag by (field.At (suc zero)) = Err fault.BagMisused
 group_field bag by (field.At (suc (suc n))) = Err fault.UnknownField
 
-abbrev pub column_place : List Col → ℕ → Typed
+abbrev pub column_place : List ScopeColumn → ℕ → Typed
 column_place cs k = typed (p.Col k) (Of (kind_at cs k))
 
 abbrev pub ref_of : Scope → Field → Answer Typed
@@ -65,7 +65,7 @@ column_call call.Sum kind.Text at = Err fault.WrongType
 column_call call.Min k at = Ok (typed (p.Agg call.Min (Some at)) (Of k))
 column_call call.Max k at = Ok (typed (p.Agg call.Max (Some at)) (Of k))
 
-abbrev pub call_field : List Col → CallKind → Option Field → Answer Typed
+abbrev pub call_field : List ScopeColumn → CallKind → Option Field → Answer Typed
 call_field cs c None = bag_call c
 call_field cs c (Some f) = first (field_of cs f) (λ k. column_call c (kind_at cs k) k)
 

@@ -8,7 +8,7 @@ use Rattle.nova_pig_algebra.specs.declared.node.PlanExpr.{PlanExpr}
 use Rattle.nova_pig_algebra.specs.declared.node.PlanExpr.TheVariants as p
 use Rattle.nova_pig_algebra.specs.declared.node.Node.TheVariants as node
 use Rattle.nova_pig_plan.specs.declared.fault.Cause.TheVariants as fault
-use Rattle.nova_pig_plan.specs.declared.scope.Col.{Col}
+use Rattle.nova_pig_plan.specs.declared.scope.ScopeColumn.{ScopeColumn}
 use Rattle.nova_pig_plan.specs.declared.scope.Scope.{Scope}
 use Rattle.nova_pig_plan.specs.declared.scope.Scope.TheVariants.{Rows, Group}
 use Rattle.nova_pig_plan.specs.declared.scope.Made.{Made}
@@ -22,19 +22,19 @@ use Rattle.nova_pig_plan.specs.Plans.{Aliases, known, defined}
 abbrev pub is_wide : Made → Bool
 is_wide made = nat_lt 64 (length made.columns)
 
-abbrev pub with_item : Made → PlanExpr → Col → Made
+abbrev pub with_item : Made → PlanExpr → ScopeColumn → Made
 with_item made e c = if is_wide made then made else all.with_item made e c
 
-abbrev pub with_all : ℕ → Made → List Col → Made
+abbrev pub with_all : ℕ → Made → List ScopeColumn → Made
 with_all n made [] = made
 with_all n made (c ∷ cs) = if is_wide made then made else with_all (suc n) (with_item made (p.Col n) c) cs
 
-abbrev pub with_flat : ℕ → Made → List Col → Made
+abbrev pub with_flat : ℕ → Made → List ScopeColumn → Made
 with_flat n made [] = made
-with_flat n made (c ∷ cs) = if is_wide made then made else with_flat (suc n) (with_item made (p.GroupCol n) (all.col c.kind c.name (Some group_name))) cs
+with_flat n made (c ∷ cs) = if is_wide made then made else with_flat (suc n) (with_item made (p.GroupCol n) (all.column_with c.kind c.name (Some group_name))) cs
 
-abbrev pub flattened : Made → List Col → Made
-flattened made (c ∷ []) = with_item made (p.GroupCol 0) (all.col c.kind (Some group_name) None)
+abbrev pub flattened : Made → List ScopeColumn → Made
+flattened made (c ∷ []) = with_item made (p.GroupCol 0) (all.column_with c.kind (Some group_name) None)
 flattened made cs = with_flat 0 made cs
 
 abbrev pub value_of : Scope → Made → Expr → Option (List ℕ) → Option Kind → Answer Made

@@ -17,7 +17,7 @@ use Rattle.nova_pig_plan.specs.declared.fault.Stop.{Stop}
 use Rattle.nova_pig_plan.specs.declared.fault.Stop.TheVariants.{Fault, NoMemory}
 use Rattle.nova_pig_plan.specs.declared.fault.FaultAt.{FaultAt}
 use Rattle.nova_pig_plan.specs.declared.fault.FaultAt.TheVariants as stop
-use Rattle.nova_pig_plan.specs.declared.scope.Col.{Col}
+use Rattle.nova_pig_plan.specs.declared.scope.ScopeColumn.{ScopeColumn}
 use Rattle.nova_pig_plan.specs.declared.scope.Scope.{Scope}
 use Rattle.nova_pig_plan.specs.declared.scope.Scope.TheVariants.{Rows, Group}
 use Rattle.nova_pig_plan.specs.declared.scope.Defined.{Defined}
@@ -26,7 +26,7 @@ use Rattle.nova_pig_plan.specs.declared.scope.Graph.{Graph}
 use Rattle.nova_pig_plan.specs.Answers.{Answer, first, if_not}
 use Rattle.nova_pig_plan.specs.Columns.{same_text, field_of}
 use Rattle.nova_pig_plan.specs.Exprs.{is_condition, expr_of}
-use Rattle.nova_pig_plan.specs.Items.{col, same_kind, column_at, items_of, nothing}
+use Rattle.nova_pig_plan.specs.Items.{column_with, same_kind, column_at, items_of, nothing}
 
 -- the first of this name, with its place, counted from n
 abbrev pub find : {A : Type 0} → List ℕ → ℕ → List (List ℕ × A) → Option (ℕ × A)
@@ -57,38 +57,38 @@ abbrev pub known : Aliases → List ℕ → Answer (ℕ × Scope)
 known done name = some_or fault.UnknownAlias (find name 0 done)
 
 -- BagMisused: a grouped alias is an operand of anything but FOREACH
-abbrev pub ungrouped : Scope → Answer (List Col)
+abbrev pub ungrouped : Scope → Answer (List ScopeColumn)
 ungrouped (Rows cs) = Ok cs
 ungrouped (Group bag by cs) = Err fault.BagMisused
 
 -- TooWide: the alias would have more than 64 columns
-abbrev pub defined : Node → List Col → Answer Defined
+abbrev pub defined : Node → List ScopeColumn → Answer Defined
 defined n cs = if_not fault.TooWide (nat_le (length cs) 64) (record { node = n; scope = Rows cs })
 
 -- the fields of a BY list, from left to right
-abbrev pub fields_of : List Col → List ℕ → List Field → Answer (List ℕ)
+abbrev pub fields_of : List ScopeColumn → List ℕ → List Field → Answer (List ℕ)
 fields_of cs ks [] = Ok ks
 fields_of cs ks (f ∷ fs) = first (field_of cs f) (λ k. fields_of cs (ks ++ k ∷ []) fs)
 
-abbrev pub columns_at : List Col → List ℕ → List Col
+abbrev pub columns_at : List ScopeColumn → List ℕ → List ScopeColumn
 columns_at cs ks = map (column_at cs) ks
 
-abbrev pub same_kinds : List Col → List Col → Bool
+abbrev pub same_kinds : List ScopeColumn → List ScopeColumn → Bool
 same_kinds [] [] = true
 same_kinds [] (d ∷ ds) = false
 same_kinds (c ∷ cs) [] = false
 same_kinds (c ∷ cs) (d ∷ ds) = same_kind c.kind d.kind && same_kinds cs ds
 
-abbrev pub same_kinds_at : List Col → List Col → List ℕ → List ℕ → Bool
+abbrev pub same_kinds_at : List ScopeColumn → List ScopeColumn → List ℕ → List ℕ → Bool
 same_kinds_at a b ks js = same_kinds (columns_at a ks) (columns_at b js)
 
 -- columns of a channel have its names and no origin
-abbrev pub channel_columns : List Column → List Col
-channel_columns cs = map (λ c. col c.kind (Some c.name) None) cs
+abbrev pub channel_columns : List Column → List ScopeColumn
+channel_columns cs = map (λ c. column_with c.kind (Some c.name) None) cs
 
 -- columns of a JOIN have their alias as origin
-abbrev pub from_alias : List ℕ → List Col → List Col
-from_alias alias cs = map (λ c. col c.kind c.name (Some alias)) cs
+abbrev pub from_alias : List ℕ → List ScopeColumn → List ScopeColumn
+from_alias alias cs = map (λ c. column_with c.kind c.name (Some alias)) cs
 
 abbrev pub load : Channels → List ℕ → Answer Defined
 load ch channel = first (some_or fault.UnknownChannel (find channel 0 ch.inputs)) (λ i. Ok (record { node = node.Load i.0; scope = Rows (channel_columns i.1.columns) }))
@@ -107,7 +107,7 @@ group done from by =
     (λ ks. Ok (record { node = node.Group k.0 ks; scope = Group from (columns_at cs ks) cs }))))
 
 -- JOIN: SchemaDiffers of its BY lists, then WrongType of their kinds
-abbrev pub join_rows : ℕ → List ℕ → List Col → List Field → ℕ → List ℕ → List Col → List Field → Answer Defined
+abbrev pub join_rows : ℕ → List ℕ → List ScopeColumn → List Field → ℕ → List ℕ → List ScopeColumn → List Field → Answer Defined
 join_rows l left cs left_by r right ds right_by =
     first (fields_of cs [] left_by) (λ ks. first (fields_of ds [] right_by) (λ js.
     first (test fault.SchemaDiffers (nat_eq (length ks) (length js))) (λ _. first (test fault.WrongType (same_kinds_at cs ds ks js)) (λ _.
@@ -122,21 +122,21 @@ abbrev pub all_known : Aliases → List ℕ → List (List ℕ) → Answer (List
 all_known done ks [] = Ok ks
 all_known done ks (a ∷ rest) = first (known done a) (λ k. all_known done (ks ++ k.0 ∷ []) rest)
 
-abbrev pub rows_of : Aliases → List ℕ → Answer (List Col)
-rows_of done name = first (known done name) (λ k. ungrouped k.1)
+abbrev pub row_columns : Aliases → List ℕ → Answer (List ScopeColumn)
+row_columns done name = first (known done name) (λ k. ungrouped k.1)
 
 abbrev pub none_grouped : Aliases → List (List ℕ) → Answer (Unit {0})
 none_grouped done [] = Ok tt
-none_grouped done (a ∷ rest) = first (rows_of done a) (λ cs. none_grouped done rest)
+none_grouped done (a ∷ rest) = first (row_columns done a) (λ cs. none_grouped done rest)
 
 -- SchemaDiffers: the arms differ in number or kinds of columns
-abbrev pub all_alike : Aliases → List Col → List (List ℕ) → Answer (Unit {0})
+abbrev pub all_alike : Aliases → List ScopeColumn → List (List ℕ) → Answer (Unit {0})
 all_alike done cs [] = Ok tt
-all_alike done cs (a ∷ rest) = first (rows_of done a) (λ ds. first (test fault.SchemaDiffers (same_kinds cs ds)) (λ _. all_alike done cs rest))
+all_alike done cs (a ∷ rest) = first (row_columns done a) (λ ds. first (test fault.SchemaDiffers (same_kinds cs ds)) (λ _. all_alike done cs rest))
 
-abbrev pub first_rows : Aliases → List (List ℕ) → Answer (List Col)
+abbrev pub first_rows : Aliases → List (List ℕ) → Answer (List ScopeColumn)
 first_rows done [] = Ok []
-first_rows done (a ∷ rest) = rows_of done a
+first_rows done (a ∷ rest) = row_columns done a
 
 abbrev pub union : Aliases → List (List ℕ) → Answer Defined
 union done arms =

@@ -1,16 +1,16 @@
 //! Which column a reference means.
 ghost use Rattle.std.specs.Prelude.{◌≡◌, IfOk};
-ghost use Rattle.nova_pig_plan.specs.Answers.{Gives, Answer};
+ghost use Rattle.nova_pig_plan.specs.Answers.{AnswersAs, Answer};
 ghost use Rattle.nova_pig_plan.specs.Columns as spec;
 
 use crate::fault::{Cause, Stop};
-use crate::scope::{Col, Text};
+use crate::scope::{ScopeColumn, Text};
 use nova_pig_tree::Field;
 use nova_value::Kind;
 
 /// A place as the plan numbers it. No list of the program is so long that this fails.
 pub(crate) fn narrow(place: usize) -> Result<u32, Stop>
-    ensures { Gives result (Ok place) }
+    ensures { AnswersAs result (Ok place) }
 {
     match u32::try_from(place) {
         Ok(n) => Ok(n),
@@ -36,7 +36,7 @@ fn is_text(text: &Option<Text<'_>>, name: &[u8]) -> bool
 }
 
 /// The place of the one column of this name.
-pub(crate) fn place_named(columns: &[Col<'_>], name: &[u8]) -> Result<usize, Cause>
+pub(crate) fn place_named(columns: &[ScopeColumn<'_>], name: &[u8]) -> Result<usize, Cause>
     ensures { result ≡ spec.the_one (spec.places (spec.is_named name.now) 0 columns.now) }
 {
     let mut found = None;
@@ -52,7 +52,7 @@ pub(crate) fn place_named(columns: &[Col<'_>], name: &[u8]) -> Result<usize, Cau
 }
 
 /// The place of the one column of this name and origin.
-fn place_from(columns: &[Col<'_>], alias: &[u8], name: &[u8]) -> Result<usize, Cause>
+fn place_from(columns: &[ScopeColumn<'_>], alias: &[u8], name: &[u8]) -> Result<usize, Cause>
     ensures { result ≡ spec.the_one (spec.places (spec.comes_from alias.now name.now) 0 columns.now) }
 {
     let mut found = None;
@@ -68,8 +68,8 @@ fn place_from(columns: &[Col<'_>], alias: &[u8], name: &[u8]) -> Result<usize, C
 }
 
 /// The place of the column that a reference means, anywhere but over a group.
-pub(crate) fn field_of(columns: &[Col<'_>], field: &Field) -> Result<u32, Stop>
-    ensures { Gives result (spec.field_of columns.now field.now) }
+pub(crate) fn field_of(columns: &[ScopeColumn<'_>], field: &Field) -> Result<u32, Stop>
+    ensures { AnswersAs result (spec.field_of columns.now field.now) }
 {
     match field {
         Field::Plain(name) => narrow(place_named(columns, name.bytes())?),
@@ -86,7 +86,7 @@ pub(crate) fn field_of(columns: &[Col<'_>], field: &Field) -> Result<u32, Stop>
 }
 
 /// The kind of the column at a place.
-pub(crate) fn kind_at(columns: &[Col<'_>], at: u32) -> Kind
+pub(crate) fn kind_at(columns: &[ScopeColumn<'_>], at: u32) -> Kind
     ensures { result ≡ spec.kind_at columns.now at }
 {
     match columns.get(at as usize) {

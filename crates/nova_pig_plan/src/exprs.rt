@@ -1,13 +1,13 @@
 //! What expressions are in a plan, and what they give.
 ghost use Rattle.std.specs.Prelude.{◌≡◌, Ok, Err};
-ghost use Rattle.nova_pig_plan.specs.Answers.{Gives, if_not};
+ghost use Rattle.nova_pig_plan.specs.Answers.{AnswersAs, if_not};
 ghost use Rattle.nova_pig_plan.specs.declared.fault.Cause.TheVariants as fault;
 ghost use Rattle.nova_pig_plan.specs.Exprs as spec;
 ghost use Rattle.nova_pig_algebra.specs.declared.node.PlanExpr.TheVariants as p;
 
 use crate::columns::{field_of, kind_at, narrow, place_named, same_text};
 use crate::fault::{Cause, Stop};
-use crate::scope::{Col, Scope, Typed};
+use crate::scope::{Scope, ScopeColumn, Typed};
 use nova_pig_algebra::{PlanExpr, Sort};
 use nova_pig_tree::{CallKind, Expr, Field};
 use nova_value::Kind;
@@ -56,7 +56,7 @@ fn are_alike(a: Sort, b: Sort) -> bool
 
 /// An expression with what it gives.
 fn typed(alloc: Global, expr: PlanExpr, sort: Sort) -> Result<Typed, Stop>
-    ensures { Gives result (Ok (spec.typed expr sort)) }
+    ensures { AnswersAs result (Ok (spec.typed expr sort)) }
 {
     let expr = Boxed::new(alloc, expr)?;
     Ok(Typed { expr, sort })
@@ -64,7 +64,7 @@ fn typed(alloc: Global, expr: PlanExpr, sort: Sort) -> Result<Typed, Stop>
 
 /// The rules for kinds: WrongType where one is broken.
 pub(crate) fn check(holds: bool) -> Result<(), Stop>
-    ensures { Gives result (if_not fault.WrongType holds tt) }
+    ensures { AnswersAs result (if_not fault.WrongType holds tt) }
 {
     if holds {
         Ok(())
@@ -74,8 +74,8 @@ pub(crate) fn check(holds: bool) -> Result<(), Stop>
 }
 
 /// `group` alone, which is a value where there is one BY column.
-fn whole_group(alloc: Global, by: &[Col<'_>]) -> Result<Typed, Stop>
-    ensures { Gives result (spec.whole_group by.now) }
+fn whole_group(alloc: Global, by: &[ScopeColumn<'_>]) -> Result<Typed, Stop>
+    ensures { AnswersAs result (spec.whole_group by.now) }
 {
     match by {
         [column] => typed(alloc, PlanExpr::GroupCol(0), Sort::Of(column.kind)),
@@ -84,8 +84,13 @@ fn whole_group(alloc: Global, by: &[Col<'_>]) -> Result<Typed, Stop>
 }
 
 /// A reference over a group and outside a call.
-fn group_field(alloc: Global, bag: &[u8], by: &[Col<'_>], field: &Field) -> Result<Typed, Stop>
-    ensures { Gives result (spec.group_field bag.now by.now field.now) }
+fn group_field(
+    alloc: Global,
+    bag: &[u8],
+    by: &[ScopeColumn<'_>],
+    field: &Field,
+) -> Result<Typed, Stop>
+    ensures { AnswersAs result (spec.group_field bag.now by.now field.now) }
 {
     match field {
         Field::Plain(name) => {
@@ -112,7 +117,7 @@ fn group_field(alloc: Global, bag: &[u8], by: &[Col<'_>], field: &Field) -> Resu
 
 /// A reference outside a call.
 fn ref_of(alloc: Global, scope: &Scope<'_>, field: &Field) -> Result<Typed, Stop>
-    ensures { Gives result (spec.ref_of scope.now field.now) }
+    ensures { AnswersAs result (spec.ref_of scope.now field.now) }
 {
     match scope {
         Scope::Rows { columns } => {
@@ -130,14 +135,14 @@ fn ref_of(alloc: Global, scope: &Scope<'_>, field: &Field) -> Result<Typed, Stop
 
 /// A call of the plan.
 fn agg(alloc: Global, kind: CallKind, column: Option<u32>, sort: Sort) -> Result<Typed, Stop>
-    ensures { Gives result (Ok (spec.typed (p.Agg kind column) sort)) }
+    ensures { AnswersAs result (Ok (spec.typed (p.Agg kind column) sort)) }
 {
     typed(alloc, PlanExpr::Agg { kind, column }, sort)
 }
 
 /// A call of a column: SUM of longs alone.
 fn column_call(alloc: Global, call: CallKind, kind: Kind, at: u32) -> Result<Typed, Stop>
-    ensures { Gives result (spec.column_call call kind at) }
+    ensures { AnswersAs result (spec.column_call call kind at) }
 {
     match call {
         CallKind::Count => agg(alloc, CallKind::Count, Some(at), Sort::Of(Kind::Long)),
@@ -152,7 +157,7 @@ fn column_call(alloc: Global, call: CallKind, kind: Kind, at: u32) -> Result<Typ
 
 /// A call of the bag: COUNT alone.
 fn bag_call(alloc: Global, call: CallKind) -> Result<Typed, Stop>
-    ensures { Gives result (spec.bag_call call) }
+    ensures { AnswersAs result (spec.bag_call call) }
 {
     match call {
         CallKind::Count => agg(alloc, CallKind::Count, None, Sort::Of(Kind::Long)),
@@ -165,11 +170,11 @@ fn bag_call(alloc: Global, call: CallKind) -> Result<Typed, Stop>
 /// A call over the bag of the scope.
 fn call_field(
     alloc: Global,
-    columns: &[Col<'_>],
+    columns: &[ScopeColumn<'_>],
     call: CallKind,
     field: &Option<Field>,
 ) -> Result<Typed, Stop>
-    ensures { Gives result (spec.call_field columns.now call field.now) }
+    ensures { AnswersAs result (spec.call_field columns.now call field.now) }
 {
     match field {
         None => bag_call(alloc, call),
@@ -188,7 +193,7 @@ fn call_of(
     alias: &[u8],
     field: &Option<Field>,
 ) -> Result<Typed, Stop>
-    ensures { Gives result (spec.call_of scope.now call alias.now field.now) }
+    ensures { AnswersAs result (spec.call_of scope.now call alias.now field.now) }
 {
     match scope {
         Scope::Rows { columns: _ } => Err(Stop::Fault(Cause::BagMisused)),
@@ -208,7 +213,7 @@ fn call_of(
 
 /// The expression of the plan, or the first fault: its parts from left to right, then itself.
 pub fn expr_of(expr: &Expr, alloc: Global, scope: &Scope<'_>) -> Result<Typed, Stop>
-    ensures { Gives result (spec.expr_of scope.now expr.now) }
+    ensures { AnswersAs result (spec.expr_of scope.now expr.now) }
 {
     match expr {
         Expr::Num(n) => typed(alloc, PlanExpr::Num(*n), Sort::Of(Kind::Long)),

@@ -5,7 +5,7 @@ use std::alloc::AllocError;
 use thiserror::Error;
 
 /// A fault of a statement.
-#[derive(Clone, Copy, Debug, PartialEq, Eq, Drop)]
+#[derive(Clone, Copy)]
 pub enum Cause {
     UnknownAlias,
     UnknownField,
@@ -20,7 +20,7 @@ pub enum Cause {
 }
 
 /// Why there is no answer.
-#[derive(Clone, Copy, Debug, PartialEq, Eq, Drop)]
+#[derive(Clone, Copy)]
 pub enum Stop {
     Fault(Cause),
     NoMemory,
@@ -47,7 +47,7 @@ impl From<Cause> for Stop {
 }
 
 /// Why a script has no plan, at a statement.
-#[derive(Clone, Copy, Debug, PartialEq, Eq, Drop)]
+#[derive(Clone, Copy)]
 pub enum FaultAt {
     At { cause: Cause, statement: u64 },
     NoMemory,

@@ -1,6 +1,6 @@
 //! The items of a FOREACH.
 ghost use Rattle.std.specs.Prelude.{◌≡◌, Ok, Some, None};
-ghost use Rattle.nova_pig_plan.specs.Answers.{Gives, GivesBy};
+ghost use Rattle.nova_pig_plan.specs.Answers.{AnswersAs, AnswersBy};
 ghost use Rattle.nova_pig_tree.specs.declared.expression.Expr.TheViews.{out-Expr};
 ghost use Rattle.nova_pig_plan.specs.Items as spec;
 ghost use Rattle.nova_pig_plan.specs.Kept as kept;
@@ -8,7 +8,7 @@ ghost use Rattle.nova_pig_plan.specs.Kept as kept;
 use crate::columns::{field_of, narrow};
 use crate::exprs::{check, expr_of};
 use crate::fault::{Cause, Stop};
-use crate::scope::{Col, Made, Scope, Text};
+use crate::scope::{Made, Scope, ScopeColumn, Text};
 use nova_pig_algebra::{PlanExpr, Sort};
 use nova_pig_tree::{Expr, Field, Item};
 use nova_value::{Kind, Str};
@@ -26,10 +26,10 @@ pub(crate) fn text_again<'a>(text: &Option<Text<'a>>) -> Option<Text<'a>>
 }
 
 /// The same column.
-pub(crate) fn column_again<'a>(column: &Col<'a>) -> Col<'a>
+pub(crate) fn column_again<'a>(column: &ScopeColumn<'a>) -> ScopeColumn<'a>
     ensures { result ≡ column.now }
 {
-    Col {
+    ScopeColumn {
         kind: column.kind,
         name: text_again(&column.name),
         origin: text_again(&column.origin),
@@ -53,10 +53,10 @@ pub(crate) fn same_kind(a: Kind, b: Kind) -> bool
 }
 
 /// A label without origin.
-fn label<'a>(kind: Kind, name: &'a [u8]) -> Col<'a>
-    ensures { result ≡ spec.col kind (Some name.now) None }
+fn label<'a>(kind: Kind, name: &'a [u8]) -> ScopeColumn<'a>
+    ensures { result ≡ spec.column_with kind (Some name.now) None }
 {
-    Col {
+    ScopeColumn {
         kind,
         name: Some(Text::new(name)),
         origin: None,
@@ -64,10 +64,10 @@ fn label<'a>(kind: Kind, name: &'a [u8]) -> Col<'a>
 }
 
 /// A label without name and origin.
-fn unnamed<'a>() -> Col<'a>
+fn unnamed<'a>() -> ScopeColumn<'a>
     ensures { result ≡ spec.unnamed }
 {
-    Col {
+    ScopeColumn {
         kind: Kind::Long,
         name: None,
         origin: None,
@@ -75,7 +75,7 @@ fn unnamed<'a>() -> Col<'a>
 }
 
 /// The column at a place.
-pub(crate) fn column_at<'a>(columns: &[Col<'a>], at: u32) -> Col<'a>
+pub(crate) fn column_at<'a>(columns: &[ScopeColumn<'a>], at: u32) -> ScopeColumn<'a>
     ensures { result ≡ spec.column_at columns.now at }
 {
     if (at as usize) < columns.len() {
@@ -86,8 +86,8 @@ pub(crate) fn column_at<'a>(columns: &[Col<'a>], at: u32) -> Col<'a>
 }
 
 /// How an item that is a field alone is named.
-fn field_label<'a>(scope: &Scope<'a>, field: &'a Field) -> Result<Col<'a>, Stop>
-    ensures { Gives result (Ok (spec.field_label scope.now field.now)) }
+fn field_label<'a>(scope: &Scope<'a>, field: &'a Field) -> Result<ScopeColumn<'a>, Stop>
+    ensures { AnswersAs result (Ok (spec.field_label scope.now field.now)) }
 {
     match scope {
         Scope::Rows { columns } => {
@@ -112,8 +112,8 @@ fn field_label<'a>(scope: &Scope<'a>, field: &'a Field) -> Result<Col<'a>, Stop>
 }
 
 /// How an item without AS is named.
-fn expr_label<'a>(scope: &Scope<'a>, expr: &'a Expr) -> Result<Col<'a>, Stop>
-    ensures { Gives result (Ok (spec.layer_label scope.now (out-Expr expr.now))) }
+fn expr_label<'a>(scope: &Scope<'a>, expr: &'a Expr) -> Result<ScopeColumn<'a>, Stop>
+    ensures { AnswersAs result (Ok (spec.layer_label scope.now (out-Expr expr.now))) }
 {
     match expr {
         Expr::Ref(field) => field_label(scope, field),
@@ -122,8 +122,12 @@ fn expr_label<'a>(scope: &Scope<'a>, expr: &'a Expr) -> Result<Col<'a>, Stop>
 }
 
 /// How an item is named.
-fn item_label<'a>(scope: &Scope<'a>, name: &'a Option<Str>, expr: &'a Expr) -> Result<Col<'a>, Stop>
-    ensures { Gives result (Ok (spec.item_label scope.now name.now expr.now)) }
+fn item_label<'a>(
+    scope: &Scope<'a>,
+    name: &'a Option<Str>,
+    expr: &'a Expr,
+) -> Result<ScopeColumn<'a>, Stop>
+    ensures { AnswersAs result (Ok (spec.item_label scope.now name.now expr.now)) }
 {
     match name {
         Some(name) => Ok(label(Kind::Long, name.bytes())),
@@ -133,7 +137,7 @@ fn item_label<'a>(scope: &Scope<'a>, name: &'a Option<Str>, expr: &'a Expr) -> R
 
 /// The kind of an item: it is a value, and of the kind after AS.
 fn value_kind(sort: Sort, kind: Option<Kind>) -> Result<Kind, Stop>
-    ensures { Gives result (spec.value_kind sort kind) }
+    ensures { AnswersAs result (spec.value_kind sort kind) }
 {
     match sort {
         Sort::Condition => Err(Stop::Fault(Cause::WrongType)),
@@ -155,8 +159,8 @@ fn is_wide(made: &Made<'_>) -> bool
 }
 
 /// One item more. Past the first column too many none is kept.
-fn add<'a>(made: &mut Made<'a>, expr: PlanExpr, column: Col<'a>) -> Result<(), Stop>
-    ensures { GivesBy (λ _. made.new) result (Ok (kept.with_item made.old expr column.entry)) }
+fn add<'a>(made: &mut Made<'a>, expr: PlanExpr, column: ScopeColumn<'a>) -> Result<(), Stop>
+    ensures { AnswersBy (λ _. made.new) result (Ok (kept.with_item made.old expr column.entry)) }
 {
     if is_wide(made) {
         return Ok(());
@@ -167,8 +171,8 @@ fn add<'a>(made: &mut Made<'a>, expr: PlanExpr, column: Col<'a>) -> Result<(), S
 }
 
 /// `*`: each column.
-fn add_all<'a>(made: &mut Made<'a>, columns: &[Col<'a>]) -> Result<(), Stop>
-    ensures { GivesBy (λ _. made.new) result (Ok (kept.with_all 0 made.old columns.now)) }
+fn add_all<'a>(made: &mut Made<'a>, columns: &[ScopeColumn<'a>]) -> Result<(), Stop>
+    ensures { AnswersBy (λ _. made.new) result (Ok (kept.with_all 0 made.old columns.now)) }
 {
     for (at, column) in columns.iter().enumerate() {
         if is_wide(made) {
@@ -181,8 +185,8 @@ fn add_all<'a>(made: &mut Made<'a>, columns: &[Col<'a>]) -> Result<(), Stop>
 }
 
 /// The BY columns, with the origin `group`.
-fn add_flat<'a>(made: &mut Made<'a>, by: &[Col<'a>]) -> Result<(), Stop>
-    ensures { GivesBy (λ _. made.new) result (Ok (kept.with_flat 0 made.old by.now)) }
+fn add_flat<'a>(made: &mut Made<'a>, by: &[ScopeColumn<'a>]) -> Result<(), Stop>
+    ensures { AnswersBy (λ _. made.new) result (Ok (kept.with_flat 0 made.old by.now)) }
 {
     for (at, column) in by.iter().enumerate() {
         if is_wide(made) {
@@ -192,7 +196,7 @@ fn add_flat<'a>(made: &mut Made<'a>, by: &[Col<'a>]) -> Result<(), Stop>
         add(
             made,
             PlanExpr::GroupCol(place),
-            Col {
+            ScopeColumn {
                 kind: column.kind,
                 name: text_again(&column.name),
                 origin: Some(Text::new(b"group")),
@@ -203,8 +207,8 @@ fn add_flat<'a>(made: &mut Made<'a>, by: &[Col<'a>]) -> Result<(), Stop>
 }
 
 /// `FLATTEN(group)`.
-fn flatten<'a>(made: &mut Made<'a>, by: &[Col<'a>]) -> Result<(), Stop>
-    ensures { GivesBy (λ _. made.new) result (Ok (kept.flattened made.old by.now)) }
+fn flatten<'a>(made: &mut Made<'a>, by: &[ScopeColumn<'a>]) -> Result<(), Stop>
+    ensures { AnswersBy (λ _. made.new) result (Ok (kept.flattened made.old by.now)) }
 {
     match by {
         [column] => add(made, PlanExpr::GroupCol(0), label(column.kind, b"group")),
@@ -221,7 +225,7 @@ fn add_value<'a>(
     name: &'a Option<Str>,
     kind: Option<Kind>,
 ) -> Result<(), Stop>
-    ensures { GivesBy (λ _. made.new) result (kept.value_of scope.now made.old expr.now name.now kind) }
+    ensures { AnswersBy (λ _. made.new) result (kept.value_of scope.now made.old expr.now name.now kind) }
 {
     let typed = expr_of(expr, alloc, scope)?;
     let kind = value_kind(typed.sort, kind)?;
@@ -229,7 +233,7 @@ fn add_value<'a>(
     add(
         made,
         typed.expr.into_inner(),
-        Col {
+        ScopeColumn {
             kind,
             name: label.name,
             origin: label.origin,
@@ -244,7 +248,7 @@ fn add_item<'a>(
     made: &mut Made<'a>,
     item: &'a Item,
 ) -> Result<(), Stop>
-    ensures { GivesBy (λ _. made.new) result (kept.item_of scope.now made.old item.now) }
+    ensures { AnswersBy (λ _. made.new) result (kept.item_of scope.now made.old item.now) }
 {
     match item {
         Item::All => match scope {
@@ -274,7 +278,7 @@ pub(crate) fn items_of<'a>(
     scope: &Scope<'a>,
     items: &'a [Item],
 ) -> Result<Made<'a>, Stop>
-    ensures { Gives result (kept.items_of scope.now spec.nothing items.now) }
+    ensures { AnswersAs result (kept.items_of scope.now spec.nothing items.now) }
 {
     let mut made = Made {
         exprs: Items::new(alloc),

@@ -1,14 +1,14 @@
 //! JOIN, UNION, LOAD and STORE.
 ghost use Rattle.std.specs.Prelude.{◌≡◌, ◌++◌, [], IfOk, OnOk};
 ghost use Rattle.std.specs.Option.{option_map};
-ghost use Rattle.nova_pig_plan.specs.Answers.{Gives, GivesBy};
+ghost use Rattle.nova_pig_plan.specs.Answers.{AnswersAs, AnswersBy};
 ghost use Rattle.nova_pig_plan.specs.Plans as spec;
 
 use crate::aliases::Aliases;
 use crate::columns::{narrow, same_text};
 use crate::fault::{Cause, Stop};
 use crate::items::{same_kind, text_again};
-use crate::scope::{Channels, Col, Defined, Scope, Text};
+use crate::scope::{Channels, Defined, Scope, ScopeColumn, Text};
 use crate::statements::{columns_again, columns_at, defined, fields_of, known, test, ungrouped};
 use nova_pig_algebra::Node;
 use nova_pig_tree::{Field, Str};
@@ -17,7 +17,7 @@ use sqlite_items::Items;
 use std::alloc::{AllocError, Global};
 
 /// Whether both have the same kinds, in order.
-fn same_kinds(a: &[Col<'_>], b: &[Col<'_>]) -> bool
+fn same_kinds(a: &[ScopeColumn<'_>], b: &[ScopeColumn<'_>]) -> bool
     ensures { result ≡ spec.same_kinds a.now b.now }
 {
     if a.len() != b.len() {
@@ -32,12 +32,15 @@ fn same_kinds(a: &[Col<'_>], b: &[Col<'_>]) -> bool
 }
 
 /// The columns of a channel: its names, without origin.
-fn channel_columns<'a>(alloc: Global, columns: &'a [Column]) -> Result<Items<Col<'a>>, AllocError>
+fn channel_columns<'a>(
+    alloc: Global,
+    columns: &'a [Column],
+) -> Result<Items<ScopeColumn<'a>>, AllocError>
     ensures { IfOk result (λ cs. cs ≡ spec.channel_columns columns.now) }
 {
     let mut all = Items::new(alloc);
     for column in columns {
-        all.push(Col {
+        all.push(ScopeColumn {
             kind: column.kind,
             name: Some(Text::new(column.name.text().as_bytes())),
             origin: None,
@@ -48,14 +51,14 @@ fn channel_columns<'a>(alloc: Global, columns: &'a [Column]) -> Result<Items<Col
 
 /// Adds the columns with this alias as their origin.
 fn add_from<'a>(
-    all: &mut Items<Col<'a>>,
+    all: &mut Items<ScopeColumn<'a>>,
     alias: &'a [u8],
-    columns: &[Col<'a>],
+    columns: &[ScopeColumn<'a>],
 ) -> Result<(), AllocError>
     ensures { OnOk result (all.new ≡ all.old ++ spec.from_alias alias.now columns.now) }
 {
     for column in columns {
-        all.push(Col {
+        all.push(ScopeColumn {
             kind: column.kind,
             name: text_again(&column.name),
             origin: Some(Text::new(alias)),
@@ -82,7 +85,7 @@ pub(crate) fn load<'a>(
     channels: &'a Channels,
     channel: &[u8],
 ) -> Result<Defined<'a>, Stop>
-    ensures { Gives result (spec.load channels.now channel.now) }
+    ensures { AnswersAs result (spec.load channels.now channel.now) }
 {
     match input_of(channels.inputs.as_slice(), channel) {
         Some((at, schema)) => {
@@ -102,7 +105,7 @@ pub(crate) fn load<'a>(
 struct Side<'s, 'a> {
     at: u32,
     alias: &'a [u8],
-    columns: &'s [Col<'a>],
+    columns: &'s [ScopeColumn<'a>],
     by: &'a [Field],
 }
 
@@ -111,7 +114,7 @@ fn both_sides<'a>(
     alloc: Global,
     left: &Side<'_, 'a>,
     right: &Side<'_, 'a>,
-) -> Result<Items<Col<'a>>, AllocError>
+) -> Result<Items<ScopeColumn<'a>>, AllocError>
     ensures { IfOk result (λ cs. cs ≡ spec.from_alias left.now.alias.now left.now.columns.now ++ spec.from_alias right.now.alias.now right.now.columns.now) }
 {
     let mut all = Items::new(alloc);
@@ -123,8 +126,8 @@ fn both_sides<'a>(
 /// Whether the columns at these places have the same kinds, in order.
 fn same_kinds_at(
     alloc: Global,
-    a: &[Col<'_>],
-    b: &[Col<'_>],
+    a: &[ScopeColumn<'_>],
+    b: &[ScopeColumn<'_>],
     a_at: &[u32],
     b_at: &[u32],
 ) -> Result<bool, AllocError>
@@ -141,7 +144,7 @@ fn join_rows<'a>(
     left: &Side<'_, 'a>,
     right: &Side<'_, 'a>,
 ) -> Result<Defined<'a>, Stop>
-    ensures { Gives result (spec.join_rows left.now.at left.now.alias.now left.now.columns.now left.now.by.now right.now.at right.now.alias.now right.now.columns.now right.now.by.now) }
+    ensures { AnswersAs result (spec.join_rows left.now.at left.now.alias.now left.now.columns.now left.now.by.now right.now.at right.now.alias.now right.now.columns.now right.now.by.now) }
 {
     let left_by = fields_of(alloc, left.columns, left.by)?;
     let right_by = fields_of(alloc, right.columns, right.by)?;
@@ -175,7 +178,7 @@ pub(crate) fn join<'a>(
     right: &'a [u8],
     right_by: &'a [Field],
 ) -> Result<Defined<'a>, Stop>
-    ensures { Gives result (spec.join done.now left.now left_by.now right.now right_by.now) }
+    ensures { AnswersAs result (spec.join done.now left.now left_by.now right.now right_by.now) }
 {
     let (l, left_scope) = known(done, left)?;
     let (r, right_scope) = known(done, right)?;
@@ -197,8 +200,8 @@ pub(crate) fn join<'a>(
 }
 
 /// The columns of an alias that is defined and not grouped.
-fn rows_of<'s, 'a>(done: &'s Aliases<'a>, name: &[u8]) -> Result<&'s [Col<'a>], Stop>
-    ensures { GivesBy (λ cs. cs.now) result (spec.rows_of done.now name.now) }
+fn row_columns<'s, 'a>(done: &'s Aliases<'a>, name: &[u8]) -> Result<&'s [ScopeColumn<'a>], Stop>
+    ensures { AnswersBy (λ cs. cs.now) result (spec.row_columns done.now name.now) }
 {
     let (_, scope) = known(done, name)?;
     ungrouped(scope)
@@ -206,7 +209,7 @@ fn rows_of<'s, 'a>(done: &'s Aliases<'a>, name: &[u8]) -> Result<&'s [Col<'a>], 
 
 /// The numbers of the arms, or UnknownAlias.
 fn all_known(alloc: Global, done: &Aliases<'_>, arms: &[Str]) -> Result<Items<u32>, Stop>
-    ensures { Gives result (spec.all_known done.now [] arms.now) }
+    ensures { AnswersAs result (spec.all_known done.now [] arms.now) }
 {
     let mut places = Items::new(alloc);
     for arm in arms {
@@ -218,32 +221,36 @@ fn all_known(alloc: Global, done: &Aliases<'_>, arms: &[Str]) -> Result<Items<u3
 
 /// BagMisused where an arm is grouped.
 fn none_grouped(done: &Aliases<'_>, arms: &[Str]) -> Result<(), Stop>
-    ensures { Gives result (spec.none_grouped done.now arms.now) }
+    ensures { AnswersAs result (spec.none_grouped done.now arms.now) }
 {
     for arm in arms {
-        rows_of(done, arm.bytes())?;
+        row_columns(done, arm.bytes())?;
     }
     Ok(())
 }
 
 /// SchemaDiffers where an arm's kinds aren't these columns'.
-fn all_alike(done: &Aliases<'_>, columns: &[Col<'_>], arms: &[Str]) -> Result<(), Stop>
-    ensures { Gives result (spec.all_alike done.now columns.now arms.now) }
+fn all_alike(done: &Aliases<'_>, columns: &[ScopeColumn<'_>], arms: &[Str]) -> Result<(), Stop>
+    ensures { AnswersAs result (spec.all_alike done.now columns.now arms.now) }
 {
     for arm in arms {
-        let other = rows_of(done, arm.bytes())?;
+        let other = row_columns(done, arm.bytes())?;
         test(Cause::SchemaDiffers, same_kinds(columns, other))?;
     }
     Ok(())
 }
 
 /// The columns of the first arm.
-fn first_rows<'a>(alloc: Global, done: &Aliases<'a>, arms: &[Str]) -> Result<Items<Col<'a>>, Stop>
-    ensures { Gives result (spec.first_rows done.now arms.now) }
+fn first_rows<'a>(
+    alloc: Global,
+    done: &Aliases<'a>,
+    arms: &[Str],
+) -> Result<Items<ScopeColumn<'a>>, Stop>
+    ensures { AnswersAs result (spec.first_rows done.now arms.now) }
 {
     match arms.split_first() {
         Some((arm, _)) => {
-            let columns = rows_of(done, arm.bytes())?;
+            let columns = row_columns(done, arm.bytes())?;
             Ok(columns_again(alloc, columns)?)
         }
         None => Ok(Items::new(alloc)),
@@ -256,7 +263,7 @@ pub(crate) fn union<'a>(
     done: &Aliases<'a>,
     arms: &[Str],
 ) -> Result<Defined<'a>, Stop>
-    ensures { Gives result (spec.union done.now arms.now) }
+    ensures { AnswersAs result (spec.union done.now arms.now) }
 {
     let places = all_known(alloc, done, arms)?;
     none_grouped(done, arms)?;
@@ -276,7 +283,7 @@ pub(crate) fn store(
     alias: &[u8],
     channel: &[u8],
 ) -> Result<u32, Stop>
-    ensures { Gives result (spec.store channels.now done.now alias.now channel.now) }
+    ensures { AnswersAs result (spec.store channels.now done.now alias.now channel.now) }
 {
     let (at, scope) = known(done, alias)?;
     test(

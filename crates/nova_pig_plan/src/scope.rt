@@ -45,7 +45,7 @@ impl<'a> Text<'a> {
 
 /// A column of an alias.
 #[derive(Drop)]
-pub struct Col<'a> {
+pub struct ScopeColumn<'a> {
     pub kind: Kind,
     pub name: Option<Text<'a>>,
     pub origin: Option<Text<'a>>,
@@ -55,12 +55,12 @@ pub struct Col<'a> {
 #[derive(Drop)]
 pub enum Scope<'a> {
     Rows {
-        columns: Items<Col<'a>>,
+        columns: Items<ScopeColumn<'a>>,
     },
     Group {
         bag: Text<'a>,
-        by: Items<Col<'a>>,
-        columns: Items<Col<'a>>,
+        by: Items<ScopeColumn<'a>>,
+        columns: Items<ScopeColumn<'a>>,
     },
 }
 
@@ -75,7 +75,7 @@ pub struct Typed {
 #[derive(Drop)]
 pub struct Made<'a> {
     pub exprs: Items<PlanExpr>,
-    pub columns: Items<Col<'a>>,
+    pub columns: Items<ScopeColumn<'a>>,
 }
 
 /// What a statement defines.

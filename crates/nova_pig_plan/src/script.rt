@@ -4,7 +4,7 @@ ghost use Rattle.nova_pig_tree.specs.declared.statement.Statement.{Statement};
 ghost use Rattle.nova_pig_plan.specs.declared.scope.Channels.{Channels};
 ghost use Rattle.nova_pig_plan.specs.declared.scope.Graph.{Graph};
 ghost use Rattle.nova_pig_plan.specs.Kinded.{IsKinded};
-ghost use Rattle.nova_pig_plan.specs.Answers.{Gives, GivesBy, first};
+ghost use Rattle.nova_pig_plan.specs.Answers.{AnswersAs, AnswersBy, first};
 ghost use Rattle.nova_pig_plan.specs.Plans as spec;
 
 use crate::aliases::Aliases;
@@ -24,7 +24,7 @@ fn op_of<'a>(
     done: &Aliases<'a>,
     op: &'a Op,
 ) -> Result<Defined<'a>, Stop>
-    ensures { Gives result (spec.op_of channels.now done.now op.now) }
+    ensures { AnswersAs result (spec.op_of channels.now done.now op.now) }
 {
     match op {
         Op::Load { channel } => load(alloc, channels, channel.bytes()),
@@ -57,7 +57,7 @@ fn define<'a>(
     alias: &[u8],
     op: &'a Op,
 ) -> Result<Defined<'a>, Stop>
-    ensures gives { Gives result (spec.define channels.now done.now alias.now op.now) }
+    ensures gives { AnswersAs result (spec.define channels.now done.now alias.now op.now) }
     ensures fresh { OnOk result (spec.find alias.now 0 done.now ≡ None) }
 {
     match done.find(alias) {
@@ -75,7 +75,7 @@ fn add<'a>(
     alias: &'a [u8],
     op: &'a Op,
 ) -> Result<(), Stop>
-    ensures { GivesBy {B = spec.State} (λ _. (done.new, nodes.new)) result (first (spec.define channels.now done.old alias.now op.now) (spec.and_defined done.old nodes.old alias.now)) }
+    ensures { AnswersBy {B = spec.State} (λ _. (done.new, nodes.new)) result (first (spec.define channels.now done.old alias.now op.now) (spec.and_defined done.old nodes.old alias.now)) }
 {
     let defined = define(alloc, channels, done, alias, op)?;
     nodes.push(defined.node)?;

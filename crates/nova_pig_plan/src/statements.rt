@@ -1,6 +1,6 @@
 //! What statements define.
 ghost use Rattle.std.specs.Prelude.{◌≡◌, [], IfOk};
-ghost use Rattle.nova_pig_plan.specs.Answers.{Gives, GivesBy};
+ghost use Rattle.nova_pig_plan.specs.Answers.{AnswersAs, AnswersBy};
 ghost use Rattle.nova_pig_plan.specs.Kept as kept;
 ghost use Rattle.nova_pig_plan.specs.Plans as spec;
 
@@ -9,7 +9,7 @@ use crate::columns::{field_of, narrow};
 use crate::exprs::{check, expr_of, is_condition};
 use crate::fault::{Cause, Stop};
 use crate::items::{column_again, column_at, items_of};
-use crate::scope::{Col, Defined, Scope, Text};
+use crate::scope::{Defined, Scope, ScopeColumn, Text};
 use nova_pig_algebra::Node;
 use nova_pig_tree::{Expr, Field, Item};
 use sqlite_items::Items;
@@ -17,7 +17,7 @@ use std::alloc::{AllocError, Global};
 
 /// The fault, where the test fails.
 pub(crate) fn test(cause: Cause, holds: bool) -> Result<(), Stop>
-    ensures { Gives result (spec.test cause holds) }
+    ensures { AnswersAs result (spec.test cause holds) }
 {
     if holds {
         Ok(())
@@ -31,7 +31,7 @@ pub(crate) fn known<'s, 'a>(
     done: &'s Aliases<'a>,
     name: &[u8],
 ) -> Result<(u32, &'s Scope<'a>), Stop>
-    ensures { GivesBy (λ k. (k.0, k.1.now)) result (spec.known done.now name.now) }
+    ensures { AnswersBy (λ k. (k.0, k.1.now)) result (spec.known done.now name.now) }
 {
     match done.find(name) {
         Some((place, scope)) => match narrow(place) {
@@ -43,8 +43,8 @@ pub(crate) fn known<'s, 'a>(
 }
 
 /// The columns of an alias, or BagMisused where it is grouped.
-pub(crate) fn ungrouped<'s, 'a>(scope: &'s Scope<'a>) -> Result<&'s [Col<'a>], Stop>
-    ensures { GivesBy (λ cs. cs.now) result (spec.ungrouped scope.now) }
+pub(crate) fn ungrouped<'s, 'a>(scope: &'s Scope<'a>) -> Result<&'s [ScopeColumn<'a>], Stop>
+    ensures { AnswersBy (λ cs. cs.now) result (spec.ungrouped scope.now) }
 {
     match scope {
         Scope::Rows { columns } => Ok(columns.as_slice()),
@@ -59,8 +59,8 @@ pub(crate) fn ungrouped<'s, 'a>(scope: &'s Scope<'a>) -> Result<&'s [Col<'a>], S
 /// The same columns.
 pub(crate) fn columns_again<'a>(
     alloc: Global,
-    columns: &[Col<'a>],
-) -> Result<Items<Col<'a>>, AllocError>
+    columns: &[ScopeColumn<'a>],
+) -> Result<Items<ScopeColumn<'a>>, AllocError>
     ensures { IfOk result (λ cs. cs ≡ columns.now) }
 {
     let mut all = Items::new(alloc);
@@ -71,8 +71,8 @@ pub(crate) fn columns_again<'a>(
 }
 
 /// A node with its columns, or TooWide where these are more than 64.
-pub(crate) fn defined<'a>(node: Node, columns: Items<Col<'a>>) -> Result<Defined<'a>, Stop>
-    ensures { Gives result (spec.defined node columns.entry) }
+pub(crate) fn defined<'a>(node: Node, columns: Items<ScopeColumn<'a>>) -> Result<Defined<'a>, Stop>
+    ensures { AnswersAs result (spec.defined node columns.entry) }
 {
     if columns.len() <= 64 {
         Ok(Defined {
@@ -87,10 +87,10 @@ pub(crate) fn defined<'a>(node: Node, columns: Items<Col<'a>>) -> Result<Defined
 /// The places that references mean, from left to right.
 pub(crate) fn fields_of(
     alloc: Global,
-    columns: &[Col<'_>],
+    columns: &[ScopeColumn<'_>],
     fields: &[Field],
 ) -> Result<Items<u32>, Stop>
-    ensures { Gives result (spec.fields_of columns.now [] fields.now) }
+    ensures { AnswersAs result (spec.fields_of columns.now [] fields.now) }
 {
     let mut places = Items::new(alloc);
     for field in fields {
@@ -102,9 +102,9 @@ pub(crate) fn fields_of(
 /// The columns at these places.
 pub(crate) fn columns_at<'a>(
     alloc: Global,
-    columns: &[Col<'a>],
+    columns: &[ScopeColumn<'a>],
     places: &[u32],
-) -> Result<Items<Col<'a>>, AllocError>
+) -> Result<Items<ScopeColumn<'a>>, AllocError>
     ensures { IfOk result (λ cs. cs ≡ spec.columns_at columns.now places.now) }
 {
     let mut all = Items::new(alloc);
@@ -121,7 +121,7 @@ pub(crate) fn filter_rows<'a>(
     from: &[u8],
     cond: &Expr,
 ) -> Result<Defined<'a>, Stop>
-    ensures { Gives result (spec.filter_rows done.now from.now cond.now) }
+    ensures { AnswersAs result (spec.filter_rows done.now from.now cond.now) }
 {
     let (at, scope) = known(done, from)?;
     let columns = ungrouped(scope)?;
@@ -145,7 +145,7 @@ fn foreach_kept<'a>(
     from: &[u8],
     items: &'a [Item],
 ) -> Result<Defined<'a>, Stop>
-    ensures { Gives result (kept.foreach done.now from.now items.now) }
+    ensures { AnswersAs result (kept.foreach done.now from.now items.now) }
 {
     let (at, scope) = known(done, from)?;
     let made = items_of(alloc, scope, items)?;
@@ -165,7 +165,7 @@ pub(crate) fn foreach<'a>(
     from: &[u8],
     items: &'a [Item],
 ) -> Result<Defined<'a>, Stop>
-    ensures { Gives result (spec.foreach done.now from.now items.now) }
+    ensures { AnswersAs result (spec.foreach done.now from.now items.now) }
 {
     foreach_kept(alloc, done, from, items)
 }
@@ -177,7 +177,7 @@ pub(crate) fn group<'a>(
     from: &'a [u8],
     by: &[Field],
 ) -> Result<Defined<'a>, Stop>
-    ensures { Gives result (spec.group done.now from.now by.now) }
+    ensures { AnswersAs result (spec.group done.now from.now by.now) }
 {
     let (at, scope) = known(done, from)?;
     let columns = ungrouped(scope)?;
@@ -201,7 +201,7 @@ pub(crate) fn distinct<'a>(
     done: &Aliases<'a>,
     from: &[u8],
 ) -> Result<Defined<'a>, Stop>
-    ensures { Gives result (spec.distinct done.now from.now) }
+    ensures { AnswersAs result (spec.distinct done.now from.now) }
 {
     let (at, scope) = known(done, from)?;
     let columns = ungrouped(scope)?;

@@ -1,0 +1,4 @@
+pub mod Decided
+pub mod Shaped
+pub mod Tabled
+pub mod Examples

@@ -3,7 +3,7 @@ use Rattle.std.proofs.Common.{◌≡◌, ◌≢◌, ℕ, ◌+◌, ◌*◌, Bool,
 use Rattle.nova_outside.specs.Disk.{Files}
 use Rattle.nova_outside.specs.History.{Event, current, replies}
 use Rattle.nova_journal.specs.Marks.{IsMark}
-use Rattle.nova_machine.specs.State.{State}
+use Rattle.nova_raw_machine.specs.State.{State}
 use Rattle.nova_engine.specs.declared.kept.Store.{Store}
 use Rattle.nova_engine.specs.declared.opening.Unopened.{Unopened}
 use Rattle.nova_engine.specs.declared.opening.Unopened.TheVariants as unopened

@@ -2,9 +2,9 @@
 use Rattle.std.proofs.Common.{◌≡◌, ◌≢◌, ℕ, Bool, true, false, List, [], ◌∷◌, ◌++◌, Option, Some, None, if◌then◌else◌, refl, sym, ap, ◌∙◌, append_assoc}
 use Rattle.std.proofs.lemmas.List.{append-nil}
 use Rattle.nova_value.specs.Text.{has_newline}
-use Rattle.nova_machine.specs.Lines.{lines_of, whole_lines_of, words_of}
-use Rattle.nova_machine.specs.Commands.{Command, WithRows, commands_from, ended_commands, rows_before_dot, has_dot, is_dot, begins_load, single}
-use Rattle.nova_machine.proofs.Cuts.{lines_at, whole_lines_at, lines_at_end}
+use Rattle.nova_raw_machine.specs.Lines.{lines_of, whole_lines_of, words_of}
+use Rattle.nova_raw_machine.specs.Commands.{Command, WithRows, commands_from, ended_commands, rows_before_dot, has_dot, is_dot, begins_load, single}
+use Rattle.nova_raw_machine.proofs.Cuts.{lines_at, whole_lines_at, lines_at_end}
 use Rattle.nova_engine.specs.Positions.{Loading, Position, with_row, load_after, ended_by, commands_in, commands_at, whole_commands_at}
 
 pub commands_in-line : (load : Option Loading) (line : List ℕ) (ls : List (List ℕ)) → commands_in load (line ∷ ls) ≡ ended_by load line ++ commands_in (load_after load line) ls

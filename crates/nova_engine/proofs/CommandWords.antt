@@ -1,10 +1,10 @@
 -- A line that no load takes, by its words.
 use Rattle.std.proofs.Common.{◌≡◌, ℕ, Bool, true, false, ◌&&◌, List, [], ◌∷◌, ◌++◌, Option, Some, None, codes, if◌then◌else◌, refl, ap, ◌∙◌}
 use Rattle.std.specs.Str.{bytes_eq}
-use Rattle.nova_machine.specs.Flow.{Flow}
-use Rattle.nova_machine.specs.State.{State}
-use Rattle.nova_machine.specs.Steps.{Step, Show}
-use Rattle.nova_machine.specs.Commands.{begins_load, behind_first, channel_named, single, single_steps, show_steps, not_built, steps}
+use Rattle.nova_raw_machine.specs.Flow.{Flow}
+use Rattle.nova_raw_machine.specs.State.{State}
+use Rattle.nova_raw_machine.specs.Steps.{Step, Show}
+use Rattle.nova_raw_machine.specs.Commands.{begins_load, behind_first, channel_named, single, single_steps, show_steps, not_built, steps}
 use Rattle.nova_engine.specs.declared.words.CommandLine.{CommandLine}
 use Rattle.nova_engine.specs.declared.words.CommandLine.TheVariants.{Blank, Load, ShowRaw, Other}
 use Rattle.nova_engine.specs.Flow.{raw_flow}

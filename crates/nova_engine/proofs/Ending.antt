@@ -8,13 +8,13 @@ use Rattle.std.proofs.KnownBytes.{Consumes-trans}
 use Rattle.nova_value.specs.Text.{has_newline}
 use Rattle.nova_outside.specs.History.{Event, current}
 use Rattle.nova_outside.proofs.ReplyLemmas.{begins_all, begins_nothing}
-use Rattle.nova_machine.specs.Lines.{whole_lines_of}
-use Rattle.nova_machine.specs.State.{State}
-use Rattle.nova_machine.specs.Steps.{Step, after_all}
-use Rattle.nova_machine.specs.Commands.{Command, commands_of, whole_commands_of, ended_commands, steps}
-use Rattle.nova_machine.specs.Replies.{text}
-use Rattle.nova_machine.proofs.Cuts.{whole_lines_at_end}
-use Rattle.nova_machine.proofs.Turns.{steps-append}
+use Rattle.nova_raw_machine.specs.Lines.{whole_lines_of}
+use Rattle.nova_raw_machine.specs.State.{State}
+use Rattle.nova_raw_machine.specs.Steps.{Step, after_all}
+use Rattle.nova_raw_machine.specs.Commands.{Command, commands_of, whole_commands_of, ended_commands, steps}
+use Rattle.nova_raw_machine.specs.Replies.{text}
+use Rattle.nova_raw_machine.proofs.Cuts.{whole_lines_at_end}
+use Rattle.nova_raw_machine.proofs.Turns.{steps-append}
 use Rattle.nova_engine.specs.declared.reader.LineReader.{LineReader}
 use Rattle.nova_engine.specs.declared.stop.Stop.{Stop}
 use Rattle.nova_engine.specs.declared.stop.Stop.TheVariants.{Disk, Reply, Full, Memory}

@@ -8,11 +8,11 @@ use Rattle.nova_value.specs.Rows.{Shape}
 use Rattle.nova_delta.specs.Merge.{DeltaValue, TableValue, merge_of}
 use Rattle.nova_journal.specs.Log.{IsPlaced, payloads_of}
 use Rattle.nova_journal.specs.declared.payload.Payload.{Payload}
-use Rattle.nova_machine.specs.Flow.{Flow, channel_in}
-use Rattle.nova_machine.specs.State.{State, newest_table, start}
-use Rattle.nova_machine.specs.Steps.{Step, Load, after, after_all, load_delta}
-use Rattle.nova_machine.proofs.Loads.{load_merges, channels_stay}
-use Rattle.nova_machine.proofs.Turns.{after_all-append}
+use Rattle.nova_raw_machine.specs.Flow.{Flow, channel_in}
+use Rattle.nova_raw_machine.specs.State.{State, newest_table, start}
+use Rattle.nova_raw_machine.specs.Steps.{Step, Load, after, after_all, load_delta}
+use Rattle.nova_raw_machine.proofs.Loads.{load_merges, channels_stay}
+use Rattle.nova_raw_machine.proofs.Turns.{after_all-append}
 use Rattle.nova_engine.specs.Flow.{raw_flow, raw_schema}
 use Rattle.nova_engine.specs.Standing.{raw_delta}
 use Rattle.nova_engine.specs.Stored.{flow_text, load_of, step_before, steps_stored, bad_load}

@@ -6,7 +6,7 @@ use Rattle.nova_outside.specs.History.{Event, current}
 use Rattle.nova_journal.specs.Log.{IsLog, length_bytes, entry, frame, records}
 use Rattle.nova_journal.specs.Marks.{IsMark}
 use Rattle.nova_journal.proofs.Decoding.{length-length_bytes}
-use Rattle.nova_machine.specs.State.{State}
+use Rattle.nova_raw_machine.specs.State.{State}
 use Rattle.nova_engine.specs.Stored.{GrowsWithin, IsLong, Keeps}
 
 pub grows_same : (f g : Files) → ((n : ℕ) → g n ≡ f n) → GrowsWithin f g

@@ -8,7 +8,7 @@ use Rattle.nova_value.specs.declared.schema.Entry.{Entry}
 use Rattle.nova_value.specs.Line.{row_of_text}
 use Rattle.nova_delta.specs.Merge.{DeltaValue}
 use Rattle.nova_delta.specs.Seen.{with_entry}
-use Rattle.nova_machine.proofs.Reading.{read_rows-row, read_rows-bad_line, read_rows-bad, set_entries-more}
+use Rattle.nova_raw_machine.proofs.Reading.{read_rows-row, read_rows-bad_line, read_rows-bad, set_entries-more}
 use Rattle.std.specs.FinMap as fin
 use Rattle.nova_engine.specs.declared.load.Pending.{Pending}
 use Rattle.nova_engine.specs.declared.load.Pending.TheVariants as pending

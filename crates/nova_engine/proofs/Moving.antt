@@ -7,12 +7,12 @@ use Rattle.nova_value.specs.Text.{has_newline}
 use Rattle.nova_outside.specs.Disk.{Files}
 use Rattle.nova_outside.specs.History.{Event, Begins, current, replies}
 use Rattle.nova_outside.proofs.ReplyLemmas.{begins_behind, begins_more}
-use Rattle.nova_machine.specs.Lines.{lines_of, whole_lines_of}
-use Rattle.nova_machine.specs.State.{State}
-use Rattle.nova_machine.specs.Steps.{Step, Load, after, after_all}
-use Rattle.nova_machine.specs.Commands.{Command, steps, ended_commands}
-use Rattle.nova_machine.specs.Replies.{text, reply_to}
-use Rattle.nova_machine.proofs.Turns.{after_all-append, text-append, steps-append}
+use Rattle.nova_raw_machine.specs.Lines.{lines_of, whole_lines_of}
+use Rattle.nova_raw_machine.specs.State.{State}
+use Rattle.nova_raw_machine.specs.Steps.{Step, Load, after, after_all}
+use Rattle.nova_raw_machine.specs.Commands.{Command, steps, ended_commands}
+use Rattle.nova_raw_machine.specs.Replies.{text, reply_to}
+use Rattle.nova_raw_machine.proofs.Turns.{after_all-append, text-append, steps-append}
 use Rattle.nova_engine.specs.declared.reader.LineReader.{LineReader}
 use Rattle.nova_engine.specs.declared.session.Session.{Session}
 use Rattle.nova_engine.specs.declared.stop.Stop.{Stop}

@@ -17,8 +17,8 @@ use Rattle.nova_journal.specs.declared.payload.Payload.{Payload}
 use Rattle.nova_journal.proofs.Decoding.{length-length_bytes}
 use Rattle.nova_journal.proofs.Generations.{mark_apart}
 use Rattle.nova_journal.proofs.OneWay.{one_log, one_place, whole_or_damaged}
-use Rattle.nova_machine.specs.State.{State, start}
-use Rattle.nova_machine.specs.Steps.{Step, after_all}
+use Rattle.nova_raw_machine.specs.State.{State, start}
+use Rattle.nova_raw_machine.specs.Steps.{Step, after_all}
 use Rattle.nova_engine.specs.declared.stored.Unfolded.{Unfolded}
 use Rattle.nova_engine.specs.declared.stored.Unfolded.TheVariants as unfolded
 use Rattle.nova_engine.specs.declared.stop.Stop.TheVariants.{Disk, Memory}

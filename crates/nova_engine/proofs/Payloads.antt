@@ -7,10 +7,10 @@ use Rattle.nova_value.specs.declared.fault.RowFault.{RowFault}
 use Rattle.nova_value.specs.declared.fault.RowFault.TheVariants.{NoMemory}
 use Rattle.nova_value.specs.declared.schema.Entry.{Entry}
 use Rattle.nova_value.specs.Line.{row_of_text}
-use Rattle.nova_machine.specs.Lines.{whole_lines_of}
-use Rattle.nova_machine.specs.Commands.{read_rows}
-use Rattle.nova_machine.proofs.Cuts.{whole_lines_at}
-use Rattle.nova_machine.proofs.Reading.{read_rows-bad_line, read_rows-bad}
+use Rattle.nova_raw_machine.specs.Lines.{whole_lines_of}
+use Rattle.nova_raw_machine.specs.Commands.{read_rows}
+use Rattle.nova_raw_machine.proofs.Cuts.{whole_lines_at}
+use Rattle.nova_raw_machine.proofs.Reading.{read_rows-bad_line, read_rows-bad}
 use Rattle.nova_engine.specs.Flow.{raw_schema}
 use Rattle.nova_engine.specs.Standing.{AreLines}
 use Rattle.nova_engine.specs.Stored.{load_of, entries_read, ends_whole, with_newlines}

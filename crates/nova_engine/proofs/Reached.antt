@@ -3,7 +3,7 @@ use Rattle.std.proofs.Common.{◌≡◌, ℕ, ◌+◌, Bool, List, [], ◌++◌,
 use Rattle.std.specs.Io.KnownBytes.{Consumes, Keeps}
 use Rattle.std.proofs.KnownBytes.{Consumes-nil, Consumes-trans, Consumes-kept}
 use Rattle.nova_outside.specs.History.{Event}
-use Rattle.nova_machine.specs.State.{State}
+use Rattle.nova_raw_machine.specs.State.{State}
 use Rattle.nova_engine.specs.declared.reader.LineReader.{LineReader}
 use Rattle.nova_engine.specs.declared.kept.Store.{Store}
 use Rattle.nova_engine.specs.Positions.{Position}

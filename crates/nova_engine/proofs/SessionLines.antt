@@ -5,12 +5,12 @@ use Rattle.std.specs.FinMap as fin
 use Rattle.nova_delta.specs.Merge.{TableValue, merge_of}
 use Rattle.nova_outside.specs.History.{Event}
 use Rattle.nova_outside.specs.Replies.{Gives, GivesInPart}
-use Rattle.nova_machine.specs.Lines.{words_of}
-use Rattle.nova_machine.specs.Flow.{Flow, channel_in}
-use Rattle.nova_machine.specs.State.{State, newest, newest_table}
-use Rattle.nova_machine.specs.Steps.{Step, Show, Refused}
-use Rattle.nova_machine.specs.Commands.{WithRows, begins_load, single, is_dot, not_built, steps}
-use Rattle.nova_machine.specs.Replies.{text, reply_to, line_end, loaded_line, shown_line, row_lines}
+use Rattle.nova_raw_machine.specs.Lines.{words_of}
+use Rattle.nova_raw_machine.specs.Flow.{Flow, channel_in}
+use Rattle.nova_raw_machine.specs.State.{State, newest, newest_table}
+use Rattle.nova_raw_machine.specs.Steps.{Step, Show, Refused}
+use Rattle.nova_raw_machine.specs.Commands.{WithRows, begins_load, single, is_dot, not_built, steps}
+use Rattle.nova_raw_machine.specs.Replies.{text, reply_to, line_end, loaded_line, shown_line, row_lines}
 use Rattle.nova_engine.specs.declared.load.Pending.{Pending}
 use Rattle.nova_engine.specs.declared.load.Pending.TheVariants as pending
 use Rattle.nova_engine.specs.declared.rows.Rows.{Rows}

@@ -9,9 +9,9 @@ use Rattle.nova_outside.specs.Replies.{HasReplied, Gives, GivesInPart, after_rep
 use Rattle.nova_journal.specs.Log.{LogTo, BeforeOrAfter, frame}
 use Rattle.nova_journal.specs.Marks.{IsIn, IsMark, Holds}
 use Rattle.nova_journal.proofs.Generations.{mark_apart}
-use Rattle.nova_machine.specs.State.{State, start}
-use Rattle.nova_machine.specs.Steps.{Step, Load, after}
-use Rattle.nova_machine.proofs.Turns.{after_all-append}
+use Rattle.nova_raw_machine.specs.State.{State, start}
+use Rattle.nova_raw_machine.specs.Steps.{Step, Load, after}
+use Rattle.nova_raw_machine.proofs.Turns.{after_all-append}
 use Rattle.nova_engine.specs.Flow.{raw_flow}
 use Rattle.nova_engine.specs.Steps.{Adds}
 use Rattle.nova_engine.specs.Standing.{Appends, AppendBreaks, AppendStops, LoadsFrom, LoadBreaks, append_stop}

@@ -7,13 +7,13 @@ use Rattle.nova_delta.specs.Merge.{DeltaValue, TableValue, merge_of}
 use Rattle.nova_outside.specs.History.{Event, current, replies}
 use Rattle.nova_outside.specs.Replies.{Gives, GivesInPart}
 use Rattle.nova_outside.proofs.ReplyLemmas.{begins_nothing, replies_grow}
-use Rattle.nova_machine.specs.Flow.{Flow, channel_in}
-use Rattle.nova_machine.specs.State.{State, newest_table}
-use Rattle.nova_machine.specs.Steps.{Step, Load, after, load_delta}
+use Rattle.nova_raw_machine.specs.Flow.{Flow, channel_in}
+use Rattle.nova_raw_machine.specs.State.{State, newest_table}
+use Rattle.nova_raw_machine.specs.Steps.{Step, Load, after, load_delta}
 use Rattle.nova_value.specs.Rows.{Shape}
-use Rattle.nova_machine.specs.Commands.{WithRows, channel_named, behind_first, read_rows, read_steps, load_steps, not_built, steps}
-use Rattle.nova_machine.specs.Replies.{reply_to}
-use Rattle.nova_machine.proofs.Loads.{load_merges, channels_stay}
+use Rattle.nova_raw_machine.specs.Commands.{WithRows, channel_named, behind_first, read_rows, read_steps, load_steps, not_built, steps}
+use Rattle.nova_raw_machine.specs.Replies.{reply_to}
+use Rattle.nova_raw_machine.proofs.Loads.{load_merges, channels_stay}
 use Rattle.nova_engine.specs.declared.stop.Stop.{Stop}
 use Rattle.nova_engine.specs.declared.stop.Stop.TheVariants.{Disk, Reply, Full, Memory}
 use Rattle.nova_engine.specs.declared.kept.Store.{Store}

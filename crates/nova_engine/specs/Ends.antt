@@ -1,10 +1,10 @@
 -- What a call of the program tells: the theorem of the top call.
 use Rattle.std.specs.Prelude.{◌≡◌, ◌≢◌, ◌⊎◌, ℕ, ◌+◌, ◌≤◌, ◌<◌, ◌^◌, Bool, List, [], ◌++◌, Option, Some, length, take, IsTrue}
 use Rattle.nova_outside.specs.History.{Event, current}
-use Rattle.nova_machine.specs.State.{State}
-use Rattle.nova_machine.specs.Steps.{Step, after_all}
-use Rattle.nova_machine.specs.Commands.{commands_of, whole_commands_of, steps}
-use Rattle.nova_machine.specs.Replies.{text}
+use Rattle.nova_raw_machine.specs.State.{State}
+use Rattle.nova_raw_machine.specs.Steps.{Step, after_all}
+use Rattle.nova_raw_machine.specs.Commands.{commands_of, whole_commands_of, steps}
+use Rattle.nova_raw_machine.specs.Replies.{text}
 use Rattle.nova_engine.specs.Steps.{Adds, IsWithin, NoRoom}
 use Rattle.nova_engine.specs.Stored.{GrowsWithin, Stands}
 

@@ -2,7 +2,7 @@
 use Rattle.std.specs.Prelude.{[], ◌∷◌, codes}
 use Rattle.nova_value.specs.declared.value.Kind.TheVariants.{Long, Text}
 use Rattle.nova_value.specs.Rows.{Shape}
-use Rattle.nova_machine.specs.Flow.{Flow}
+use Rattle.nova_raw_machine.specs.Flow.{Flow}
 
 abbrev pub raw_schema : Shape
 raw_schema = record {

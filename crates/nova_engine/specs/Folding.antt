@@ -4,8 +4,8 @@ use Rattle.nova_value.specs.declared.schema.Entry.{Entry}
 use Rattle.nova_delta.specs.Merge.{DeltaValue, TableValue}
 use Rattle.nova_journal.specs.Log.{IsPlaced, payloads_of}
 use Rattle.nova_journal.specs.declared.payload.Payload.{Payload}
-use Rattle.nova_machine.specs.State.{State, newest, newest_table}
-use Rattle.nova_machine.specs.Steps.{Step, after_all}
+use Rattle.nova_raw_machine.specs.State.{State, newest, newest_table}
+use Rattle.nova_raw_machine.specs.Steps.{Step, after_all}
 use Rattle.nova_engine.specs.declared.stored.Unfolded.{Unfolded}
 use Rattle.nova_engine.specs.declared.stored.Unfolded.TheVariants.{At, Memory}
 use Rattle.nova_engine.specs.Flow.{raw_flow}

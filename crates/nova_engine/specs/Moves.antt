@@ -2,10 +2,10 @@
 use Rattle.std.specs.Prelude.{◌≡◌, ℕ, Bool, false, List, [], ◌∷◌, ◌++◌, Option, IsTrue}
 use Rattle.nova_value.specs.Text.{has_newline}
 use Rattle.nova_outside.specs.History.{Event, current}
-use Rattle.nova_machine.specs.State.{State}
-use Rattle.nova_machine.specs.Steps.{after_all}
-use Rattle.nova_machine.specs.Commands.{Command, steps}
-use Rattle.nova_machine.specs.Replies.{text}
+use Rattle.nova_raw_machine.specs.State.{State}
+use Rattle.nova_raw_machine.specs.Steps.{after_all}
+use Rattle.nova_raw_machine.specs.Commands.{Command, steps}
+use Rattle.nova_raw_machine.specs.Replies.{text}
 use Rattle.nova_engine.specs.declared.reader.LineReader.{LineReader}
 use Rattle.nova_engine.specs.declared.session.Session.{Session}
 use Rattle.nova_engine.specs.declared.stop.Stop.{Stop}

@@ -7,8 +7,8 @@ use Rattle.nova_journal.specs.Log.{IsReadTo}
 use Rattle.nova_journal.specs.Marks.{IsMark}
 use Rattle.nova_journal.specs.declared.fault.LogFault.{LogFault}
 use Rattle.nova_journal.specs.declared.fault.LogFault.TheVariants as log
-use Rattle.nova_machine.specs.Replies.{line_end}
-use Rattle.nova_machine.specs.State.{State, start}
+use Rattle.nova_raw_machine.specs.Replies.{line_end}
+use Rattle.nova_raw_machine.specs.State.{State, start}
 use Rattle.nova_engine.specs.declared.kept.Store.{Store}
 use Rattle.nova_engine.specs.declared.opening.Unopened.{Unopened}
 use Rattle.nova_engine.specs.declared.opening.Unopened.TheVariants.{Disk, NoStore, Damaged, Memory}

@@ -1,8 +1,8 @@
 -- A session in the middle of its input.
 use Rattle.std.specs.Prelude.{ℕ, true, false, List, [], ◌∷◌, ◌++◌, Option, Some, None, if◌then◌else◌}
-use Rattle.nova_machine.specs.State.{State}
-use Rattle.nova_machine.specs.Lines.{lines_of, whole_lines_of, words_of}
-use Rattle.nova_machine.specs.Commands.{Command, WithRows, commands_from, ended_commands, rows_before_dot, has_dot, is_dot, begins_load, single}
+use Rattle.nova_raw_machine.specs.State.{State}
+use Rattle.nova_raw_machine.specs.Lines.{lines_of, whole_lines_of, words_of}
+use Rattle.nova_raw_machine.specs.Commands.{Command, WithRows, commands_from, ended_commands, rows_before_dot, has_dot, is_dot, begins_load, single}
 
 -- a load that is being read: the words of its line, and the lines that it took
 pub record Loading : Type 0 where

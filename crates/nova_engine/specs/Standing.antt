@@ -5,10 +5,10 @@ use Rattle.nova_journal.specs.Marks.{IsIn}
 use Rattle.nova_value.specs.declared.schema.Entry.{Entry}
 use Rattle.nova_delta.specs.Merge.{DeltaValue}
 use Rattle.nova_outside.specs.History.{Event, Begins, current}
-use Rattle.nova_machine.specs.State.{State, newest, newest_table}
-use Rattle.nova_machine.specs.Steps.{Step, Load, after, after_all, load_delta}
-use Rattle.nova_machine.specs.Commands.{Command, WithRows, read_rows, behind_first, steps}
-use Rattle.nova_machine.specs.Replies.{text}
+use Rattle.nova_raw_machine.specs.State.{State, newest, newest_table}
+use Rattle.nova_raw_machine.specs.Steps.{Step, Load, after, after_all, load_delta}
+use Rattle.nova_raw_machine.specs.Commands.{Command, WithRows, read_rows, behind_first, steps}
+use Rattle.nova_raw_machine.specs.Replies.{text}
 use Rattle.nova_engine.specs.declared.load.Pending.{Pending}
 use Rattle.nova_engine.specs.declared.load.Pending.TheVariants.{NotBuilt, BadRow, Rows}
 use Rattle.nova_engine.specs.declared.session.Session.{Session}

@@ -4,9 +4,9 @@ use Rattle.nova_outside.specs.Causes.{Rose}
 use Rattle.nova_value.specs.declared.schema.Entry.{Entry}
 use Rattle.nova_outside.specs.Disk.{Files}
 use Rattle.nova_outside.specs.History.{Event, Begins, current, replies}
-use Rattle.nova_machine.specs.State.{State}
-use Rattle.nova_machine.specs.Steps.{Step, Load, after_all}
-use Rattle.nova_machine.specs.Replies.{text}
+use Rattle.nova_raw_machine.specs.State.{State}
+use Rattle.nova_raw_machine.specs.Steps.{Step, Load, after_all}
+use Rattle.nova_raw_machine.specs.Replies.{text}
 use Rattle.nova_engine.specs.declared.stop.Stop.{Stop}
 use Rattle.nova_engine.specs.declared.stop.Stop.TheVariants.{Disk, Reply, Full}
 use Rattle.nova_engine.specs.Stored.{GrowsWithin, IsFull, Stands, load_of}

@@ -6,10 +6,10 @@ use Rattle.nova_outside.specs.Disk.{Files, Only}
 use Rattle.nova_outside.specs.History.{Event, current, Outcome}
 use Rattle.nova_journal.specs.Log.{IsLog, LogTo, frame}
 use Rattle.nova_journal.specs.Marks.{IsMark, Holds}
-use Rattle.nova_machine.specs.Lines.{whole_lines_of}
-use Rattle.nova_machine.specs.State.{State, start}
-use Rattle.nova_machine.specs.Steps.{Step, Load, after_all}
-use Rattle.nova_machine.specs.Commands.{read_rows}
+use Rattle.nova_raw_machine.specs.Lines.{whole_lines_of}
+use Rattle.nova_raw_machine.specs.State.{State, start}
+use Rattle.nova_raw_machine.specs.Steps.{Step, Load, after_all}
+use Rattle.nova_raw_machine.specs.Commands.{read_rows}
 use Rattle.nova_engine.specs.Flow.{raw_flow, raw_schema}
 
 -- the text of the workflow of the one channel

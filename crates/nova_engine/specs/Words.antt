@@ -1,7 +1,7 @@
 -- What a line of a session is, by its words.
 use Rattle.std.specs.Prelude.{Bool, ◌&&◌, List, [], ◌∷◌, ℕ, codes, if◌then◌else◌, is_some}
 use Rattle.std.specs.Str.{bytes_eq}
-use Rattle.nova_machine.specs.Commands.{channel_named}
+use Rattle.nova_raw_machine.specs.Commands.{channel_named}
 use Rattle.nova_engine.specs.Flow.{raw_flow}
 use Rattle.nova_engine.specs.declared.words.CommandLine.{CommandLine}
 use Rattle.nova_engine.specs.declared.words.CommandLine.TheVariants.{Blank, Load, ShowRaw, Other}

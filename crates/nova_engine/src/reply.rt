@@ -2,7 +2,7 @@
 ghost use Rattle.std.specs.Prelude.{◌≡◌, ◌++◌, [], List, ℕ, codes, decimal, map, MatchResult, OnOk, IsTrue, false};
 ghost use Rattle.nova_outside.specs.Causes.{HasCause};
 ghost use Rattle.nova_outside.specs.Replies.{Gives, GivesInPart, in_one};
-ghost use Rattle.nova_machine.specs.Replies.{line_end, loaded_line, shown_line};
+ghost use Rattle.nova_raw_machine.specs.Replies.{line_end, loaded_line, shown_line};
 ghost use Rattle.nova_value.specs.RowLine.{row_line, joined, tail_text, value_text};
 ghost use Rattle.nova_engine.specs.Buffered.{Holds};
 ghost use Rattle.nova_engine.specs.Opening.{damaged_line, ready_line};

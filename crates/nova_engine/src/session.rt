@@ -1,8 +1,8 @@
 //! A session: lines in turn.
 ghost use Rattle.std.specs.Prelude.{◌≡◌, ◌+◌, ◌<◌, ◌≤◌, ◌^◌, Some, None, IfOk, MatchResult, false};
 ghost use Rattle.nova_value.specs.Text.{has_newline};
-ghost use Rattle.nova_machine.specs.Lines.{words_of};
-ghost use Rattle.nova_machine.specs.Commands.{single};
+ghost use Rattle.nova_raw_machine.specs.Lines.{words_of};
+ghost use Rattle.nova_raw_machine.specs.Commands.{single};
 ghost use Rattle.nova_engine.specs.Standing.{MovesLine, BreaksLine, ClosesLoad, BreaksLoad, InHost, line_count};
 ghost use Rattle.nova_engine.specs.Steps.{HasStopCause};
 

@@ -7,7 +7,7 @@ ghost use Rattle.nova_outside.specs.History.{current};
 ghost use Rattle.nova_outside.specs.Replies.{Gives, GivesInPart};
 ghost use Rattle.nova_journal.specs.Log.{frame};
 ghost use Rattle.nova_journal.specs.Marks.{IsIn};
-ghost use Rattle.nova_machine.specs.Replies.{row_lines, loaded_line, shown_line};
+ghost use Rattle.nova_raw_machine.specs.Replies.{row_lines, loaded_line, shown_line};
 ghost use Rattle.nova_engine.specs.Standing.{InHost, LoadsFrom, LoadBreaks, Appends, AppendBreaks, append_stop};
 ghost use Rattle.nova_engine.specs.Steps.{HasStopCause};
 

@@ -1,8 +1,8 @@
 //! A line of a session by its words.
 ghost use Rattle.std.specs.Prelude.{◌≡◌, ◌≢◌, ◌∷◌, ◌<◌, ◌≤◌, [], List, ℕ, length, drop, slice_index, codes, MatchOption, IfSome};
 ghost use Rattle.std.specs.Str.{bytes_eq};
-ghost use Rattle.nova_machine.specs.Lines.{words_of};
-ghost use Rattle.nova_machine.specs.Commands.{is_dot};
+ghost use Rattle.nova_raw_machine.specs.Lines.{words_of};
+ghost use Rattle.nova_raw_machine.specs.Commands.{is_dot};
 ghost use Rattle.nova_engine.specs.Words.{names_raw, line_of};
 
 /// What a line of a session is where no load takes it.

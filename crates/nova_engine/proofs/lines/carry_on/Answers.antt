@@ -1,4 +1,4 @@
-use Rattle.nova_machine.proofs.Cuts.{has_newline-append}
+use Rattle.nova_raw_machine.proofs.Cuts.{has_newline-append}
 use Rattle.nova_engine.proofs.lines.carry_on.Goals as goal
 
 pub invariant_of-result : goal.invariant_of-result

@@ -1,6 +1,6 @@
 use Rattle.std.proofs.Common.{refl, ◌++◌, List, ℕ, sym, ap, ◌∙◌}
 use Rattle.std.proofs.lemmas.Result.{err_from_is_err_and}
-use Rattle.nova_machine.proofs.Cuts.{has_newline-append}
+use Rattle.nova_raw_machine.proofs.Cuts.{has_newline-append}
 use Rattle.nova_engine.proofs.Moving.{moves_line, breaks_line, breaks_at_once}
 use Rattle.nova_engine.proofs.lines.end_line.Goals as goal
 

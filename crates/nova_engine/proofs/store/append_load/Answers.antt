@@ -1,6 +1,6 @@
 use Rattle.std.proofs.Common.{◌≤◌, ◌^◌, ◌+◌, ◌∷◌, ◌++◌, [], List, ℕ, length, ap, ◌∙◌}
 use Rattle.nova_outside.specs.History.{current}
-use Rattle.nova_machine.specs.Steps.{Load, after}
+use Rattle.nova_raw_machine.specs.Steps.{Load, after}
 use Rattle.nova_engine.proofs.Lengths.{grows_to, had_room, long_kept}
 use Rattle.nova_engine.proofs.Storing.{append_done, append_stopped, adds_nothing}
 use Rattle.nova_engine.proofs.store.append_load.Goals as goal

@@ -1,6 +1,6 @@
 use Rattle.std.proofs.Common.{refl, codes, ◌+◌}
 use Rattle.std.proofs.lemmas.Result.{err_from_is_err_and}
-use Rattle.nova_machine.specs.Replies.{loaded_line}
+use Rattle.nova_raw_machine.specs.Replies.{loaded_line}
 use Rattle.nova_engine.proofs.Storing.{loads_done, load_breaks_reply, in_host_replied}
 use Rattle.nova_engine.proofs.store.load.Goals as goal
 

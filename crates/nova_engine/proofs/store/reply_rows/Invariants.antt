@@ -2,7 +2,7 @@ use Rattle.std.proofs.Common.{◌≡◌, ◌++◌, List, ℕ, ◌≤◌}
 use Rattle.std.specs.List.{flat_map}
 use Rattle.nova_value.specs.RowLine.{row_line}
 use Rattle.nova_outside.specs.Replies.{Gives}
-use Rattle.nova_machine.specs.Replies.{row_lines}
+use Rattle.nova_raw_machine.specs.Replies.{row_lines}
 use Rattle.nova_engine.proofs.store.reply_rows.Given as goal
 
 abbrev pub invariant-loop-row : goal.invariant-loop-row

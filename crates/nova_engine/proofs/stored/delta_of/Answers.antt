@@ -1,7 +1,7 @@
 use Rattle.std.proofs.Common.{◌++◌, ◌∷◌, [], refl, ap, ◌∙◌}
 use Rattle.std.proofs.lemmas.List.{append-nil}
 use Rattle.nova_engine.specs.Stored.{with_newlines}
-use Rattle.nova_machine.proofs.Reading.{read_rows-row}
+use Rattle.nova_raw_machine.proofs.Reading.{read_rows-row}
 use Rattle.nova_engine.specs.Flow.{raw_schema}
 use Rattle.nova_engine.specs.Folding.{HasLoad}
 use Rattle.nova_engine.proofs.Empty.{empty_is, some_is}

@@ -1,6 +1,6 @@
 use Rattle.std.proofs.Common.{◌≡◌, ◌++◌, List, ℕ, length, Ok}
 use Rattle.nova_value.specs.declared.schema.Entry.{Entry}
-use Rattle.nova_machine.specs.Commands.{read_rows}
+use Rattle.nova_raw_machine.specs.Commands.{read_rows}
 use Rattle.nova_engine.specs.Flow.{raw_schema}
 use Rattle.nova_engine.specs.Standing.{AreLines, raw_delta}
 use Rattle.nova_engine.specs.Stored.{with_newlines}

@@ -1,5 +1,5 @@
 use Rattle.std.proofs.lemmas.List.{take_rest}
-use Rattle.nova_machine.proofs.WordLemmas.{words-behind_spaces}
+use Rattle.nova_raw_machine.proofs.WordLemmas.{words-behind_spaces}
 use Rattle.nova_engine.proofs.words.behind_spaces.Goals as goal
 
 pub returns-clause-words : goal.returns-clause-words

@@ -1,6 +1,6 @@
 use Rattle.std.proofs.Common.{sym, ◌∙◌}
 use Rattle.std.proofs.lemmas.List.{take_rest}
-use Rattle.nova_machine.proofs.WordLemmas.{words-front}
+use Rattle.nova_raw_machine.proofs.WordLemmas.{words-front}
 use Rattle.nova_engine.proofs.words.next_word.Goals as goal
 
 pub returns : goal.returns

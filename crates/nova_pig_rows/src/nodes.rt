@@ -1,0 +1,264 @@
+//! The nodes of a plan, from the left: those that the stored one stands on, each once.
+ghost use Rattle.std.specs.Prelude.{◌≡◌, ◌+◌, ◌<◌, ◌++◌, [], length, map, flat_map, slice_get, IfOk, OnOk};
+ghost use Rattle.std.specs.Prelude.{filter as keep};
+ghost use Rattle.nova_pig_algebra.specs.Meaning.{holds, no_calls};
+ghost use Rattle.nova_pig_algebra.specs.Tree.{tree_at, trees, rows, rows_at, distinct as once};
+ghost use Rattle.nova_pig_rows.specs.Readers as spec;
+ghost use Rattle.nova_pig_rows.specs.Step as step;
+ghost use Rattle.nova_pig_rows.specs.Led.{Led};
+
+use crate::distinct::first_rows;
+use crate::group::grouped;
+use crate::join::join;
+use crate::make::{made_all, passing};
+use crate::relation::Relation;
+use crate::work::Work;
+use nova_pig_algebra::{Node, PlanExpr};
+use std::alloc::{AllocError, Global};
+
+/// The node that a FOREACH reads: that of the GROUP, where it is over one.
+fn read_by(nodes: &[Node], from: u32) -> u32
+    ensures { result ≡ spec.read_by from (slice_get nodes.now from) }
+{
+    match nodes.get(from as usize) {
+        Some(Node::Group { from, columns: _ }) => *from,
+        _ => from,
+    }
+}
+
+/// A node that the reader reads, unless a later one does.
+fn mark(last: &mut Vec<usize>, reader: usize, node: u32)
+    requires { reader < length last.old.items }
+    ensures { last.new.items ≡ step.marked reader last.old.items node }
+{
+    let at = node as usize;
+    if at < reader && last[at] == 0 {
+        last[at] = reader + 1;
+    }
+}
+
+/// What a node reads, marked.
+fn mark_read(last: &mut Vec<usize>, reader: usize, nodes: &[Node], node: &Node)
+    requires { reader < length last.old.items }
+    ensures { last.new.items ≡ step.all_marked reader last.old.items (spec.read nodes.now node.now) }
+{
+    match node {
+        Node::Load { input: _ } => {}
+        Node::Filter { from, cond: _ } => mark(last, reader, *from),
+        Node::Foreach { from, items: _ } => mark(last, reader, read_by(nodes, *from)),
+        Node::Group {
+            from: _,
+            columns: _,
+        } => {}
+        Node::Join {
+            left,
+            left_by: _,
+            right,
+            right_by: _,
+        } => {
+            mark(last, reader, *left);
+            mark(last, reader, *right);
+        }
+        Node::Union { arms } => mark_arms(last, reader, arms.as_slice()),
+        Node::Distinct { from } => mark(last, reader, *from),
+    }
+}
+
+/// The arms of a UNION, marked.
+fn mark_arms(last: &mut Vec<usize>, reader: usize, arms: &[u32])
+    requires { reader < length last.old.items }
+    ensures { last.new.items ≡ step.all_marked reader last.old.items arms.now }
+{
+    for arm in arms {
+        mark(last, reader, *arm);
+    }
+}
+
+/// That the answer reads the stored node after all nodes.
+fn answer_reads(alloc: Global, nodes: &[Node], stored: u32) -> Result<Vec<usize>, AllocError>
+    ensures { IfOk result (λ u. u.items ≡ step.answer_reads (length nodes.now) stored) }
+{
+    let count = nodes.len();
+    let mut last = vec![in alloc; 0; count]?;
+    let place = stored as usize;
+    if place < count {
+        last[place] = count + 1;
+    }
+    Ok(last)
+}
+
+/// Of each node the number of its last reader and one more, or 0 where the stored one doesn't stand
+/// on it. The answer reads the stored node after all others.
+fn last_readers(alloc: Global, nodes: &[Node], stored: u32) -> Result<Vec<usize>, AllocError>
+    ensures long { IfOk result (λ u. length u.items ≡ length nodes.now) }
+    ensures stored { IfOk result (λ u. stored < length nodes.now → length nodes.now < spec.last_at u.items stored) }
+    ensures closed { IfOk result (λ u. spec.ClosedFrom nodes.now 0 u.items) }
+{
+    let mut last = answer_reads(alloc, nodes, stored)?;
+    let mut at = nodes.len();
+    while at > 0 {
+        at -= 1;
+        if last[at] > 0 {
+            mark_read(&mut last, at, nodes, &nodes[at]);
+        }
+    }
+    Ok(last)
+}
+
+/// The rows of each of these, one behind the other.
+fn union<'a>(alloc: Global, work: &Work<'a>, arms: &[u32]) -> Result<Relation<'a>, AllocError>
+    ensures { IfOk result (λ r. r ≡ flat_map (rows_at work.now.relations.items) arms.now) }
+{
+    let mut out = Relation::new(alloc);
+    for arm in arms {
+        out.append_shared(alloc, work.rows(*arm))?;
+    }
+    Ok(out)
+}
+
+/// FOREACH over rows, or over groups.
+fn foreach<'a>(
+    alloc: Global,
+    nodes: &[Node],
+    work: &Work<'a>,
+    from: u32,
+    items: &[PlanExpr],
+) -> Result<Relation<'a>, AllocError>
+    ensures { IfOk result (λ r. r ≡ step.foreach_rows items.now work.now.relations.items from (slice_get nodes.now from)) }
+{
+    match nodes.get(from as usize) {
+        Some(Node::Group { from, columns }) => {
+            grouped(alloc, columns.as_slice(), items, work.rows(*from))
+        }
+        _ => made_all(alloc, items, work.rows(from)),
+    }
+}
+
+/// The rows of a table.
+fn table<'a>(alloc: Global, tables: &[Relation<'a>], input: u32) -> Result<Relation<'a>, AllocError>
+    ensures { IfOk result (λ r. r ≡ rows_at tables.now input) }
+{
+    let mut out = Relation::new(alloc);
+    if let Some(table) = tables.get(input as usize) {
+        out.append_shared(alloc, table.rows())?;
+    }
+    Ok(out)
+}
+
+/// FILTER.
+fn filter<'a>(
+    alloc: Global,
+    work: &mut Work<'a>,
+    at: usize,
+    from: u32,
+    cond: &PlanExpr,
+) -> Result<Relation<'a>, AllocError>
+    ensures rows { IfOk result (λ r. r ≡ keep (λ row. holds cond.now row no_calls) (rows_at work.old.relations.items from)) }
+    ensures keeps { OnOk result (spec.KeepsLater at work.old.last.items work.old.relations.items work.new.relations.items) }
+    ensures last { work.new.last.items ≡ work.old.last.items }
+{
+    let picks = passing(alloc, cond, work.rows(from))?;
+    let rows = work.pick(alloc, at, from, &picks)?;
+    Ok(rows)
+}
+
+/// DISTINCT.
+fn distinct<'a>(
+    alloc: Global,
+    work: &mut Work<'a>,
+    at: usize,
+    from: u32,
+) -> Result<Relation<'a>, AllocError>
+    ensures rows { IfOk result (λ r. r ≡ once (rows_at work.old.relations.items from)) }
+    ensures keeps { OnOk result (spec.KeepsLater at work.old.last.items work.old.relations.items work.new.relations.items) }
+    ensures last { work.new.last.items ≡ work.old.last.items }
+{
+    let picks = first_rows(alloc, work.rows(from))?;
+    let rows = work.pick(alloc, at, from, &picks)?;
+    Ok(rows)
+}
+
+/// The rows of the node with this number.
+fn rows_of_node<'a>(
+    alloc: Global,
+    tables: &[Relation<'a>],
+    nodes: &[Node],
+    work: &mut Work<'a>,
+    at: usize,
+    node: &Node,
+) -> Result<Relation<'a>, AllocError>
+    requires { at < length nodes.now }
+    ensures rows { IfOk result (λ r. r ≡ step.node_rows tables.now nodes.now work.old.relations.items node.now) }
+    ensures keeps { OnOk result (spec.KeepsLater at work.old.last.items work.old.relations.items work.new.relations.items) }
+    ensures last { work.new.last.items ≡ work.old.last.items }
+{
+    match node {
+        Node::Load { input } => table(alloc, tables, *input),
+        Node::Filter { from, cond } => filter(alloc, work, at, *from, cond),
+        Node::Foreach { from, items } => foreach(alloc, nodes, work, *from, items.as_slice()),
+        Node::Group {
+            from: _,
+            columns: _,
+        } => Ok(Relation::new(alloc)),
+        Node::Join {
+            left,
+            left_by,
+            right,
+            right_by,
+        } => join(
+            alloc,
+            work.rows(*left),
+            left_by.as_slice(),
+            work.rows(*right),
+            right_by.as_slice(),
+        ),
+        Node::Union { arms } => union(alloc, work, arms.as_slice()),
+        Node::Distinct { from } => distinct(alloc, work, at, *from),
+    }
+}
+
+/// The rows of the next node, or none where nothing reads it.
+fn add_node<'a>(
+    alloc: Global,
+    tables: &[Relation<'a>],
+    nodes: &[Node],
+    work: &mut Work<'a>,
+    at: usize,
+) -> Result<(), AllocError>
+    requires { at < length nodes.now }
+    ensures last { work.new.last.items ≡ work.old.last.items }
+    ensures led { OnOk result (spec.ClosedFrom nodes.now 0 work.old.last.items → Led tables.now nodes.now work.old.last.items work.old.relations.items at → Led tables.now nodes.now work.old.last.items work.new.relations.items (at + 1)) }
+{
+    let node = &nodes[at];
+    if work.last_of(at) == 0 {
+        work.relations.push(Relation::new(alloc))?;
+        return Ok(());
+    }
+    let rows = rows_of_node(alloc, tables, nodes, work, at, node)?;
+    work.release(alloc, at);
+    work.relations.push(rows)?;
+    Ok(())
+}
+
+/// The rows of the stored node, of the tables of the inputs. Each node that it stands on is
+/// evaluated once, and no other. Rows of tables are lent; rows that were made are moved where a
+/// FILTER or a DISTINCT is their last reader.
+pub fn rows_of_nodes<'a>(
+    alloc: Global,
+    tables: &[Relation<'a>],
+    nodes: &[Node],
+    stored: u32,
+) -> Result<Relation<'a>, AllocError>
+    ensures { IfOk result (λ r. r ≡ rows (tree_at (trees nodes.now) stored) tables.now) }
+{
+    let last = last_readers(alloc, nodes, stored)?;
+    let mut work = Work {
+        relations: Vec::with_capacity(alloc, nodes.len())?,
+        last,
+    };
+    for at in 0..nodes.len() {
+        add_node(alloc, tables, nodes, &mut work, at)?;
+    }
+    let rows = work.answer(alloc, stored);
+    Ok(rows)
+}

@@ -1,0 +1,19 @@
+//! Whether a workflow is admitted: the pattern of each task, from the nodes of its plan, or the
+//! fault of the first task that isn't admitted.
+#![tactic(auto)]
+
+mod admitted;
+mod fault;
+mod flows;
+mod laws;
+mod pattern;
+mod plans;
+mod reach;
+mod shape;
+mod task;
+
+pub use admitted::{Admitted, admit};
+pub use fault::AdmitFault;
+pub use laws::tasks_are_settled;
+pub use plans::{GroupPlan, Pattern, RowPlan, admit_task};
+pub use task::admission;

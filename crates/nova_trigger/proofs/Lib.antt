@@ -1,0 +1,3 @@
+pub mod Ready
+pub mod Known
+pub mod Machine

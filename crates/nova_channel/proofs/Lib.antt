@@ -1,0 +1,4 @@
+pub mod Routes
+pub mod Places
+pub mod Example
+pub mod Whole

@@ -1,0 +1,8 @@
+use Rattle.nova_channel.proofs.Whole as whole
+use Rattle.nova_channel.proofs.laws.reads_are_whole.Goals as goal
+
+pub returns-clause-read : goal.returns-clause-read
+returns-clause-read c = whole.reads_are_whole
+
+pub returns-clause-table : goal.returns-clause-table
+returns-clause-table c = whole.tables_are_whole

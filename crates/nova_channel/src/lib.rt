@@ -1,0 +1,11 @@
+//! Reading a channel: the blocks of the chosen path, joined.
+#![tactic(auto)]
+
+mod join;
+mod laws;
+mod route;
+#[cfg(test)]
+mod tests;
+
+pub use join::{read, read_table};
+pub use laws::{files_are_one_block, reads_are_blocks, reads_are_whole};

@@ -1,0 +1,14 @@
+pub mod Held
+pub mod Workflow
+pub mod Around
+pub mod Files
+pub mod Readable
+pub mod Stands
+pub mod Acts
+pub mod Steps
+pub mod Committing
+pub mod Opening
+pub mod Making
+pub mod Reading
+pub mod Laws
+pub mod LoadLaws

@@ -1,0 +1,26 @@
+-- What each catalog of commits in order gives its readers.
+use Rattle.std.specs.Prelude.{◌≡◌, ℕ, ◌<◌, ◌≤◌, ◌^◌, true, length, Some}
+use Rattle.nova_runner.specs.Files.{Piece, IsNamed}
+use Rattle.nova_runner.specs.Held.{Held}
+use Rattle.nova_runner.specs.Workflow.{flow_of, wiring_of}
+use Rattle.nova_path.specs.Shelf.{HasPath}
+use Rattle.nova_path.specs.Intervals.{spans}
+use Rattle.nova_channel.specs.Reading.{AreNumbered}
+use Rattle.nova_meta.specs.Catalog.{Entered, shelf_at}
+use Rattle.nova_meta.specs.Shelves.{IsShelved}
+
+-- its channels are those of its workflow, named blocks are below the next number and have files, each channel has a path from 0 to its version, and its intervals are in order
+pub record IsReadable (cat : Entered) : Type 0 where
+  pub below : (p : Piece) → IsNamed cat p → p.block < cat.next
+  pub numbered : (c : ℕ) → AreNumbered (shelf_at cat c).intervals
+  pub whole : (c : ℕ) → HasPath (spans (shelf_at cat c).intervals) 0 (shelf_at cat c).version
+  pub next : cat.next ≤ 2 ^ 62
+  pub many : length cat.channels ≡ length cat.wiring.writers
+  pub shelved : (c : ℕ) → IsShelved (shelf_at cat c)
+
+-- A store's catalog is that of its workflow, and readable.
+pub record IsKept (held : Held) : Type 0 where
+  pub read : flow_of held.flow.text ≡ Some held.flow
+  pub wired : held.catalog.wiring ≡ wiring_of held.flow
+  pub begun : held.catalog.begun ≡ true
+  pub readable : IsReadable held.catalog

@@ -1,0 +1,87 @@
+-- The workflow of a text, and what a catalog knows of it.
+use Rattle.std.specs.Prelude.{◌≡◌, List, [], ◌∷◌, ◌++◌, ℕ, ◌<◌, ◌≤◌, Bool, true, false, length, map, Option, Some, None, codes, if◌then◌else◌}
+use Rattle.std.specs.Str.{bytes_eq}
+use Rattle.nova_value.specs.declared.value.Kind.TheVariants.{Long, Text}
+use Rattle.nova_value.specs.Rows.{Shape, IsShape}
+use Rattle.nova_workflow.specs.declared.flow.Channel.{Channel}
+use Rattle.nova_workflow.specs.declared.flow.Input.{Input}
+use Rattle.nova_workflow.specs.declared.flow.Task.{Task}
+use Rattle.nova_workflow.specs.declared.flow.Trigger.{Trigger}
+use Rattle.nova_workflow.specs.declared.flow.Trigger.TheVariants.{OnData, Every, After}
+use Rattle.nova_pig_pattern.specs.declared.task.PatternKind.{PatternKind}
+use Rattle.nova_pig_pattern.specs.declared.task.PatternKind.TheVariants.{NonIncremental, Stateless, Lookup, Stateful}
+use Rattle.nova_meta.specs.declared.wiring.Edge.{Edge}
+use Rattle.nova_meta.specs.declared.wiring.Wire.{Wire}
+use Rattle.nova_meta.specs.declared.wiring.Wiring.{Wiring}
+use Rattle.nova_meta.specs.Wired as catalog
+use Rattle.nova_meta.specs.Wired.{IsWiring}
+use Rattle.nova_machine.specs.Workflow.{Workflow, TaskPlan, is_based, is_new, schema_in}
+use Rattle.nova_machine.specs.Sound.{IsWired}
+use Rattle.nova_machine.specs.Keeping.{RunsKeep}
+
+-- the one workflow that is built in
+abbrev pub raw_schema : Shape
+raw_schema = record {
+  columns = record { name = codes "id"; kind = Long } ∷ (record { name = codes "url"; kind = Text } ∷ (record { name = codes "ms"; kind = Long } ∷ []));
+  key = 0 ∷ [];
+}
+
+abbrev pub raw_channel : Channel
+raw_channel = record { name = codes "raw"; schema = raw_schema; writer = None; based = false }
+
+abbrev pub raw_text : List ℕ
+raw_text =
+    codes "[[channel]]\n" ++ codes "name = \"raw\"\n"
+    ++ codes "columns = [\"id long\", \"url chararray\", \"ms long\"]\n" ++ codes "key = [\"id\"]\n"
+
+abbrev pub raw_flow : List ℕ → Workflow
+raw_flow text = record { text = text; channels = raw_channel ∷ []; tasks = []; plans = [] }
+
+-- the workflow that a text says, or none where it is refused: of the built-in text alone until workflow texts are admitted
+unfoldable pub flow_of : List ℕ → Option Workflow
+flow_of text = if bytes_eq text raw_text then Some (raw_flow text) else None
+
+-- ---- what a catalog knows
+
+abbrev pub edge_of : Input → Edge
+edge_of i = record { channel = i.channel; new = is_new i.mode }
+
+-- the task that a cascade names
+abbrev pub named_by : Trigger → Option ℕ
+named_by OnData = None
+named_by (Every period) = None
+named_by (After task) = Some task
+
+abbrev pub keeps_state : PatternKind → Bool
+keeps_state NonIncremental = false
+keeps_state Stateless = false
+keeps_state Lookup = false
+keeps_state Stateful = true
+
+abbrev pub wire_of : Task → TaskPlan → Wire
+wire_of t p = record { inputs = map edge_of t.inputs; output = t.output; based = t.based; after = named_by t.trigger; stateful = keeps_state p.pattern }
+
+abbrev pub wires_of : List Task → List TaskPlan → List Wire
+wires_of [] ps = []
+wires_of (t ∷ ts) [] = []
+wires_of (t ∷ ts) (p ∷ ps) = wire_of t p ∷ wires_of ts ps
+
+-- who writes each channel, and the channels of each task
+unfoldable pub wiring_of : Workflow → Wiring
+wiring_of w = record { writers = map (λ (c : Channel). c.writer) w.channels; tasks = wires_of w.tasks w.plans }
+
+-- ---- what is kept
+
+-- What each workflow that a text says keeps. This is all that the store rests on: whichever texts are admitted, they give it.
+pub record IsAdmitted (text : List ℕ) (w : Workflow) : Type 0 where
+  pub kept : w.text ≡ text
+  pub short : length text ≤ 1048576
+  pub planned : length w.plans ≡ length w.tasks
+  pub shaped : (c : ℕ) → c < length w.channels → IsShape (schema_in w c)
+  pub based : (c : ℕ) → catalog.is_based (wiring_of w) c ≡ is_based w c
+  pub wiring : IsWiring (wiring_of w)
+  pub news : IsWired w
+  pub runs : RunsKeep w
+
+abbrev pub FlowsAreAdmitted : Type 0
+FlowsAreAdmitted = (text : List ℕ) (w : Workflow) → flow_of text ≡ Some w → IsAdmitted text w

@@ -1,0 +1,29 @@
+//! A store in memory.
+use crate::workflow::Workflow;
+use nova_journal::Journal;
+use nova_meta::Catalog;
+use std::marker::Model;
+
+/// The open journal, the workflow and the catalog: no table is in memory.
+#[derive(Drop)]
+pub struct Store {
+    pub(crate) journal: Journal,
+    pub(crate) flow: Workflow,
+    pub(crate) catalog: Catalog,
+}
+
+impl Model for Store {
+    ghost use Rattle.std.specs.Prelude.{◌≡◌, true};
+    ghost use Rattle.nova_runner.specs.Held.{Held};
+    ghost use Rattle.nova_runner.specs.Readable.{IsKept};
+    ghost use Rattle.nova_pig_algebra.specs.contracts.node.PlanExpr as e;
+    ghost use Rattle.std.specs.Coded.{codes};
+
+    ghost Value = { Held };
+
+    ghost coded = { Prim.hlevel (codes, e.the_row.coded) };
+
+    ghost view = { λ s. record { journal = s.journal; flow = s.flow; catalog = s.catalog } };
+
+    ghost invariant = { λ s. IsKept (record { journal = s.journal; flow = s.flow; catalog = s.catalog }) };
+}

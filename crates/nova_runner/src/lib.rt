@@ -18,8 +18,6 @@ mod show;
 mod stop;
 mod store;
 mod table;
-#[cfg(test)]
-mod tests;
 mod workflow;
 
 pub use laws::{

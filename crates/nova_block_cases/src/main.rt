@@ -3,6 +3,8 @@
 #![tactic(auto)]
 
 mod answer;
+mod entry;
+mod file;
 mod schema;
 mod text;
 mod trial;

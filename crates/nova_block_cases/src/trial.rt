@@ -2,8 +2,13 @@
 //!
 //! A line is `#` and a remark; `schema` and its name; `block` and bytes, as hexadecimal digits; or
 //! a case: `is ANSWER` for the block, `flip PLACE ANSWER` for the block with the lowest bit of one
-//! byte turned, or `cut LENGTH ANSWER` for its first bytes. Empty lines are skipped.
+//! byte turned, `cut LENGTH ANSWER` for its first bytes, `entry PLACE ANSWER` for the entry at a
+//! place. Of the block in a file: `whole ANSWER` for its bytes and the host's calls, `size LENGTH
+//! ANSWER` and `absent LENGTH ANSWER` where it, or a file that isn't there, is read as one of that
+//! length, `fail CALL ANSWER` where a call of the host fails. Empty lines are skipped.
 use crate::answer::answer_for;
+use crate::entry::answer_at;
+use crate::file::{answer_failing, answer_in, answer_whole};
 use crate::schema;
 use crate::text::{bytes_of, number_and_rest};
 use nova_value::Schema;
@@ -42,21 +47,7 @@ impl Trial {
             "" | "#" => {}
             "schema" => self.set_schema(rest)?,
             "block" => self.block = bytes_of(self.alloc, rest)?,
-            "is" => {
-                let bytes = self.block.as_slice().to_vec(self.alloc)?;
-                self.compare(rt, line, &bytes, rest)?;
-            }
-            "flip" => {
-                let (at, wanted) = number_and_rest(rest);
-                let bytes = self.flipped(at)?;
-                self.compare(rt, line, &bytes, wanted)?;
-            }
-            "cut" => {
-                let (length, wanted) = number_and_rest(rest);
-                let bytes = self.block.get(..length).unwrap_or(&[]).to_vec(self.alloc)?;
-                self.compare(rt, line, &bytes, wanted)?;
-            }
-            _ => println!(rt; "no such word: {line}")?,
+            _ => self.try_case(rt, line, word, rest)?,
         }
         Ok(())
     }
@@ -79,15 +70,38 @@ impl Trial {
         Ok(bytes)
     }
 
+    /// What the first bytes of the block are.
+    fn answer_cut(&self, length: usize) -> Result<String, AllocError> {
+        let bytes = self.block.get(..length).unwrap_or(&[]);
+        answer_for(self.alloc, bytes, &self.schema)
+    }
+
+    /// What the block is in a case, or None where there is no such word.
+    fn answer(&self, word: &str, number: usize) -> Result<Option<String>, AllocError> {
+        let (alloc, block, schema) = (self.alloc, self.block.as_slice(), &self.schema);
+        let found = match word {
+            "is" => answer_for(alloc, block, schema)?,
+            "flip" => answer_for(alloc, &self.flipped(number)?, schema)?,
+            "cut" => self.answer_cut(number)?,
+            "entry" => answer_at(alloc, block, number, schema)?,
+            "whole" => answer_whole(alloc, block, schema)?,
+            "size" => answer_in(alloc, block, 2, number as u64, schema)?,
+            "absent" => answer_in(alloc, block, 6, number as u64, schema)?,
+            "fail" => answer_failing(alloc, block, number as u64, schema)?,
+            _ => return Ok(None),
+        };
+        Ok(Some(found))
+    }
+
     /// Tells a case that isn't as wanted, and counts one that is.
-    fn compare(
-        &mut self,
-        rt: &impl Print,
-        line: &str,
-        bytes: &[u8],
-        wanted: &str,
-    ) -> io::Result<()> {
-        let found = answer_for(self.alloc, bytes, &self.schema)?;
+    fn try_case(&mut self, rt: &impl Print, line: &str, word: &str, rest: &str) -> io::Result<()> {
+        let (number, wanted) = match word {
+            "is" | "whole" => (0, rest),
+            _ => number_and_rest(rest),
+        };
+        let Some(found) = self.answer(word, number)? else {
+            return println!(rt; "no such word: {line}");
+        };
         if found.as_str() == wanted {
             self.agreeing = self.agreeing.saturating_add(1);
             return Ok(());

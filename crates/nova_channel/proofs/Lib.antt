@@ -1,4 +1,3 @@
 pub mod Routes
 pub mod Places
-pub mod Example
 pub mod Whole

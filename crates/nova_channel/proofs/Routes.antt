@@ -86,6 +86,12 @@ one_block s size c d e one other = ok_is d e (files_read_one_way s size c (Ok d)
 pub not_damaged : (s : Shape) (size : ℕ) (c : Option (List ℕ)) (at : ℕ) (d : DeltaValue) → DamagedAt s size c at → HoldsBlock s size c d → ⊥
 not_damaged s size c at d bad good = let same = files_read_one_way s size c (Ok d) (Err at) good bad in cc
 
+err_is : (a b : ℕ) → ◌≡◌ {A = Result DeltaValue ℕ} (Err a) (Err b) → a ≡ b
+err_is a b same = cc
+
+pub one_place : (s : Shape) (size : ℕ) (c : Option (List ℕ)) (at place : ℕ) → DamagedAt s size c at → DamagedAt s size c place → at ≡ place
+one_place s size c at place one other = err_is at place (files_read_one_way s size c (Err at) (Err place) one other)
+
 module _ (s : Shape) (files : Files) (vs : List Version) (shelf : List Interval) (gives : GivesBlocks s files vs shelf) where
   along : (route : List Interval) (ds : List EntryMap) → AllByRecursion (IsOneOf shelf) route → AreRead s files route ds → ds ≡ blocks_along vs (spans route)
   along [] [] all read = refl

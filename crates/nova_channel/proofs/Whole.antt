@@ -11,8 +11,8 @@ use Rattle.nova_path.specs.Intervals.{AreApart, span, spans}
 use Rattle.nova_path.specs.declared.interval.Interval.{Interval}
 use Rattle.nova_block.specs.Files.{DamagedAt}
 use Rattle.nova_channel.specs.Reading.{block_file, AreRead, IsDamage, IsFirstBad, IsRoute}
-use Rattle.nova_channel.specs.Laws.{ReadsAreWhole, TablesAreWhole}
-use Rattle.nova_channel.proofs.Routes.{not_damaged}
+use Rattle.nova_channel.specs.Laws.{OneDamage, ReadsAreWhole, TablesAreWhole}
+use Rattle.nova_channel.proofs.Routes.{not_damaged, one_place}
 
 both_true : (a b : Bool) → a ≡ true → b ≡ true → (a && b) ≡ true
 both_true true b is and = and
@@ -69,8 +69,24 @@ module _ (s : Shape) (files : Files) where
       let same = one_route shelf xs ys apart one.within other.within (some_is (spans xs) (spans ys) (sym one.chosen ∙ other.chosen)) in
       none_bad xs ds file at read (subst (λ (zs : List Interval). IsFirstBad s files zs file at) (sym same) bad)
 
+  damaged : (x : Interval) (file at : ℕ) → file ≡ block_file x.block → DamagedAt s x.size (files file) at → DamagedAt s x.size (files (block_file x.block)) at
+  damaged x file at is = subst (λ n. DamagedAt s x.size (files n) at) is
+
+  one_bad : (xs : List Interval) (file at other place : ℕ) → IsFirstBad s files xs file at → IsFirstBad s files xs other place → (file ≡ other) × (at ≡ place)
+  one_bad [] file at other place one also = absurd one
+  one_bad (x ∷ xs) file at other place (inl one) (inl also) =
+      (one.0 ∙ sym also.0, one_place s x.size (files (block_file x.block)) at place (damaged x file at one.0 one.1) (damaged x other place also.0 also.1))
+  one_bad (x ∷ xs) file at other place (inl one) (inr also) = absurd (not_damaged s x.size (files (block_file x.block)) at also.0 (damaged x file at one.0 one.1) also.1)
+  one_bad (x ∷ xs) file at other place (inr one) (inl also) = absurd (not_damaged s x.size (files (block_file x.block)) place one.0 (damaged x other place also.0 also.1) one.1)
+  one_bad (x ∷ xs) file at other place (inr one) (inr also) = one_bad xs file at other place one.2 also.2
+
 pub reads_are_whole : ReadsAreWhole
 reads_are_whole s files shelf from to entries file at apart is damage = whole s files shelf from to is.route damage.route is.blocks file at apart is.chosen damage.chosen is.read damage.bad
+
+pub one_damage : OneDamage
+one_damage s files shelf from to file at other place apart one also =
+    let same = one_route shelf also.route one.route apart also.chosen.within one.chosen.within (some_is (spans also.route) (spans one.route) (sym also.chosen.chosen ∙ one.chosen.chosen)) in
+    one_bad s files one.route file at other place one.bad (subst (λ (xs : List Interval). IsFirstBad s files xs other place) same also.bad)
 
 pub tables_are_whole : TablesAreWhole
 tables_are_whole s files shelf to rows file at apart is damage = whole s files shelf 0 to is.route damage.route is.merges.blocks file at apart is.chosen damage.chosen is.merges.read damage.bad

@@ -53,3 +53,8 @@ ReadsAreWhole = (s : Shape) (files : Files) (shelf : List Interval) (from to : �
 abbrev pub TablesAreWhole : Type 0
 TablesAreWhole = (s : Shape) (files : Files) (shelf : List Interval) (to : ℕ) (rows : RowMap) (file at : ℕ) →
     AreApart shelf → HasReadTable s files shelf to rows → IsDamage s files shelf 0 to file at → ⊥
+
+-- and damage is told in one way: of one file, at one place
+abbrev pub OneDamage : Type 0
+OneDamage = (s : Shape) (files : Files) (shelf : List Interval) (from to file at other place : ℕ) →
+    AreApart shelf → IsDamage s files shelf from to file at → IsDamage s files shelf from to other place → (file ≡ other) × (at ≡ place)

@@ -1,5 +1,5 @@
 //! What reads give of files that hold a channel's blocks.
-ghost use Rattle.nova_channel.specs.Laws.{BlocksAreNotBad, HoldersGive, OneBlock, ReadsAreBlocks, ReadsAreWhole, TablesAreVersions, TablesAreWhole};
+ghost use Rattle.nova_channel.specs.Laws.{BlocksAreNotBad, HoldersGive, OneBlock, OneDamage, ReadsAreBlocks, ReadsAreWhole, TablesAreVersions, TablesAreWhole};
 
 /// A file is one delta's block.
 pub fn files_are_one_block()
@@ -15,8 +15,10 @@ pub fn reads_are_blocks()
     ensures sound { BlocksAreNotBad }
 {}
 
-/// Where a block on the chosen path is none, nothing is read along it.
+/// Where a block on the chosen path is none, nothing is read along it, and the first such block is
+/// what is told.
 pub fn reads_are_whole()
     ensures read { ReadsAreWhole }
     ensures table { TablesAreWhole }
+    ensures one { OneDamage }
 {}

@@ -4,8 +4,6 @@
 mod join;
 mod laws;
 mod route;
-#[cfg(test)]
-mod tests;
 
 pub use join::{read, read_table};
 pub use laws::{files_are_one_block, reads_are_blocks, reads_are_whole};

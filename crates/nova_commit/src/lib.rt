@@ -7,8 +7,6 @@ mod decoding;
 mod encoding;
 mod fault;
 mod laws;
-#[cfg(test)]
-mod tests;
 
 pub use commit::{Commit, PartFile};
 pub use decoding::{decode_commit, is_rising};

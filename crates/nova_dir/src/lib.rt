@@ -6,8 +6,6 @@ mod files;
 mod folder;
 mod host;
 mod source;
-#[cfg(test)]
-mod tests;
 
 ghost use Rattle.std.specs.Prelude.{◌≤◌};
 ghost use Rattle.nova_outside.specs.Causes.{Rose};

@@ -1,3 +1,4 @@
+pub mod Extent
 pub mod Fault
 pub mod Laws
 pub mod Log

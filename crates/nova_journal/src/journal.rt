@@ -14,6 +14,7 @@ use crate::reading::read_log;
 use crate::unread::Unread;
 use nova_outside::{Host, write_through};
 use std::alloc::Global;
+use std::marker::Model;
 
 /// No record takes a journal past this length.
 const LIMIT: u64 = 1 << 62;
@@ -24,22 +25,31 @@ const LIMIT: u64 = 1 << 62;
 pub struct Journal {
     generation: u64,
     length: u64,
-    ghost gated: { 1 ≤ length },
-    ghost bounded: { length < 2 ^ 63 },
-    ghost numbered: { generation < 2 ^ 62 },
+}
+
+impl Model for Journal {
+    ghost use Rattle.nova_journal.specs.Extent.{Extent, IsExtent};
+
+    ghost Value = { Extent };
+
+    ghost view = { λ j. record { generation = j.generation; length = j.length } };
+
+    ghost invariant = { λ j. IsExtent (record { generation = j.generation; length = j.length }) };
 }
 
 impl Journal {
     /// The number that the files of the journal and of its mark are named by.
     pub fn generation(&self) -> u64
-        ensures { result ≡ self.now.generation }
+        ensures is { result ≡ self.now.generation }
+        ensures numbered { result < 2 ^ 62 }
     {
         self.generation
     }
 
     /// The length in bytes, the last gate included.
     pub fn length(&self) -> u64
-        ensures { result ≡ self.now.length }
+        ensures is { result ≡ self.now.length }
+        ensures bounded { result < 2 ^ 63 }
     {
         self.length
     }

@@ -10,8 +10,6 @@ mod laws;
 mod marks;
 mod payload;
 mod reading;
-#[cfg(test)]
-mod tests;
 mod unread;
 
 pub use fault::LogFault;

@@ -7,8 +7,6 @@ mod files;
 mod host;
 mod parts;
 mod source;
-#[cfg(test)]
-mod tests;
 
 pub use host::MemHost;
 pub use source::{MemSource, MemSteady};

@@ -56,7 +56,8 @@ impl Catalog {
         shelves[channel as usize].version() < LIMIT
     }
 
-    fn may_load(&self, channel: u32, block: u64, size: u64) -> bool
+    /// Whether a load with this block may come next. It takes no memory.
+    pub fn may_load(&self, channel: u32, block: u64, size: u64) -> bool
         ensures { result ≡ allows self.now (Load channel block size) }
     {
         self.begun

@@ -19,7 +19,7 @@ pub enum Wanted {
 
 /// A line of the cases.
 #[derive(Drop)]
-pub enum Case {
+pub enum Case<'a> {
     /// A line without words, or a remark alone.
     Nothing,
     /// The catalog is shown.
@@ -28,6 +28,8 @@ pub enum Case {
     Unreadable,
     /// A commit's bytes.
     Commit { wanted: Wanted, bytes: Vec<u8> },
+    /// A question, and its answer.
+    Question { asked: &'a str, wanted: &'a str },
 }
 
 fn wanted_of(word: &str) -> Option<Wanted> {
@@ -49,7 +51,7 @@ fn without_remark(line: &str) -> &str {
 }
 
 /// The bytes of hexadecimal words, or None where one isn't.
-fn bytes_of(alloc: Global, words: &str) -> Result<Option<Vec<u8>>, AllocError> {
+pub fn bytes_of(alloc: Global, words: &str) -> Result<Option<Vec<u8>>, AllocError> {
     let mut digits = String::new(alloc);
     for word in words.split_whitespace() {
         digits.push_str(word)?;
@@ -61,14 +63,18 @@ fn bytes_of(alloc: Global, words: &str) -> Result<Option<Vec<u8>>, AllocError> {
     }
 }
 
-/// The case of a line: a word, and hexadecimal digits; a `#` begins a remark.
-pub fn case_of(alloc: Global, line: &str) -> Result<Case, AllocError> {
+/// The case of a line: a word, and hexadecimal digits, or a question and behind `=` its answer; a `#`
+/// begins a remark.
+pub fn case_of<'a>(alloc: Global, line: &'a str) -> Result<Case<'a>, AllocError> {
     let words = without_remark(line).trim();
     if words.is_empty() {
         return Ok(Case::Nothing);
     }
     if words == "show" {
         return Ok(Case::Show);
+    }
+    if let Some((asked, wanted)) = words.split_once(" = ") {
+        return Ok(Case::Question { asked, wanted });
     }
     let (word, digits) = words.split_once(' ').unwrap_or((words, ""));
     let Some(wanted) = wanted_of(word) else {

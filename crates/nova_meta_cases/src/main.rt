@@ -1,15 +1,17 @@
-//! Tries the cases of `data/commits.txt`: bytes that are commits or aren't, and commits that keep the
-//! catalog's rules or break one.
+//! Tries the cases of the files that its words name: bytes that are commits or aren't and what they
+//! mean, commits that keep the catalog's rules or break one, and the paths of a catalog.
 #![tactic(auto)]
 
 mod case;
+mod question;
 mod shown;
+mod spelling;
 mod workflow;
 
 use case::{Case, case_of, comes_out};
 use nova_meta::Catalog;
 use shown::show;
-use std::{fs, io};
+use std::{env, fs, io};
 use workflow::three_tasks;
 
 /// The lines that failed, and how many were tried.
@@ -54,18 +56,34 @@ fn try_line(
             }
             Ok(tally.with(holds))
         }
+        Case::Question { asked, wanted } => {
+            let found = question::answer(rt.alloc(), catalog, asked)?;
+            let holds = found.as_str() == wanted;
+            if !holds {
+                println!(rt; "{asked} = {found}")?;
+            }
+            Ok(tally.with(holds))
+        }
     }
 }
 
-fn main(rt: HostRuntime) -> io::Result<()> {
-    let text = fs::read_to_string(&rt, "commits.txt")?;
+/// Tries the cases of a file on a catalog of their own.
+fn try_file(rt: &HostRuntime, file: &str) -> io::Result<()> {
+    let text = fs::read_to_string(rt, file)?;
     let mut catalog = Catalog::start(rt.alloc(), three_tasks(rt.alloc())?)?;
     let mut tally = Tally {
         tried: 0,
         failed: 0,
     };
     for line in text.lines() {
-        tally = try_line(&rt, &mut catalog, line, tally)?;
+        tally = try_line(rt, &mut catalog, line, tally)?;
     }
-    println!(rt; "{} cases, {} failed", tally.tried, tally.failed)
+    println!(rt; "{file}: {} cases, {} failed", tally.tried, tally.failed)
+}
+
+fn main(rt: HostRuntime) -> io::Result<()> {
+    for file in env::args(&rt)?.skip(1) {
+        try_file(&rt, file.as_str())?;
+    }
+    Ok(())
 }

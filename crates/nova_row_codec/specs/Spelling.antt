@@ -1,5 +1,5 @@
 -- Values, entries and deltas as bytes. The highest byte of a number stands first.
-use Rattle.std.specs.Prelude.{ℕ, List, ◌∷◌, ◌++◌, length}
+use Rattle.std.specs.Prelude.{ℕ, ◌-◌, ◌^◌, List, ◌∷◌, ◌++◌, length, min}
 use Rattle.std.specs.List.{flat_map}
 use Rattle.std.specs.Int.{w16, w64, to_be_bytes, cast_unsigned}
 use Rattle.nova_value.specs.declared.value.Value.{Value}
@@ -40,3 +40,7 @@ block_bytes es = eight (length es) ++ entries_bytes es
 -- the one spelling of a delta: its entries in the order of their keys
 abbrev pub spelling_of : DeltaValue → List ℕ
 spelling_of d = block_bytes (entries_of d)
+
+-- how many bytes they are, or 2^64 - 1 where they are more
+abbrev pub told_length : List ℕ → ℕ
+told_length bytes = min (length bytes) (2 ^ 64 - 1)

@@ -5,12 +5,12 @@ mod decoding;
 mod encoding;
 mod fault;
 mod laws;
+mod length;
 mod list;
-#[cfg(test)]
-mod tests;
 
 pub use decoding::decode_entry;
 pub use encoding::encode_entry;
 pub use fault::CodecFault;
 pub use laws::{blocks_are_spelled_once, entries_are_spelled_once, entries_have_three_bytes};
+pub use length::entry_length;
 pub use list::decode_list;

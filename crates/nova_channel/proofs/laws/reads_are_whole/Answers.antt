@@ -6,3 +6,6 @@ returns-clause-read c = whole.reads_are_whole
 
 pub returns-clause-table : goal.returns-clause-table
 returns-clause-table c = whole.tables_are_whole
+
+pub returns-clause-one : goal.returns-clause-one
+returns-clause-one c = whole.one_damage

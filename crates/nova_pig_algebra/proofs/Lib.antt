@@ -8,7 +8,6 @@ pub mod Keyed
 pub mod Even
 pub mod Apart
 pub mod Agree
-pub mod Literal
 pub mod Steps
 pub mod Arms
 pub mod FactsOfTrees

@@ -80,8 +80,9 @@ pub fn same_columns(a: &[u32], b: &[u32]) -> bool
     a.cmp(b).is_eq()
 }
 
-/// A place as the plan numbers it. Plans number columns below 2^32, so it never fails.
-pub(crate) fn narrow(place: usize) -> Result<u32, AllocError>
+/// A place as a plan numbers it. No list of the program is so long that this fails; where one
+/// were, it would be out of memory.
+pub fn narrow(place: usize) -> Result<u32, AllocError>
     ensures { IfOk result (λ n. n ≡ place) }
 {
     match u32::try_from(place) {

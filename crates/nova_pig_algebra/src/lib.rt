@@ -11,12 +11,11 @@ mod facts;
 mod keys;
 mod known;
 mod laws;
-mod literals;
 mod node;
 mod places;
 mod plan;
 
-pub use columns::{column_set, covers, same_columns};
+pub use columns::{column_set, covers, narrow, same_columns};
 pub use facts::{Constant, Facts};
 pub use known::{facts_of_nodes, key_of_nodes};
 pub use laws::{

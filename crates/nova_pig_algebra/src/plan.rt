@@ -1,10 +1,10 @@
 //! Plans.
-ghost use Rattle.std.specs.Prelude.{◌≡◌, IfOk};
+ghost use Rattle.std.specs.Prelude.{◌≡◌, true, IfOk};
 ghost use Rattle.std.specs.Option.{option_map};
+ghost use Rattle.nova_pig_algebra.specs.Literals.{nodes_have_values};
 ghost use Rattle.nova_pig_algebra.specs.Plan as spec;
 
 use crate::known::key_of_nodes;
-use crate::literals::nodes_have_values;
 use crate::node::Node;
 use nova_value::Schema;
 use sqlite_items::Items;
@@ -37,7 +37,7 @@ impl Model for Plan {
 }
 
 impl Plan {
-    /// The plan of these nodes, whose kinds are right, with its key.
+    /// The plan of these nodes, whose kinds are right and whose literals are values, with its key.
     pub fn new(
         alloc: Global,
         nodes: Items<Node>,
@@ -45,10 +45,10 @@ impl Plan {
         inputs: Items<Schema>,
         output: Schema,
     ) -> Result<Plan, AllocError>
-        requires { spec.IsKinded (spec.plan_with nodes stored inputs output) }
+        requires kinded { spec.IsKinded (spec.plan_with nodes stored inputs output) }
+        requires literals { nodes_have_values nodes ≡ true }
         ensures { IfOk result (λ p. p ≡ spec.plan_with nodes stored inputs output) }
     {
-        nodes_have_values(nodes.as_slice());
         let key = key_of_nodes(alloc, inputs.as_slice(), nodes.as_slice(), stored)?;
         Ok(Plan {
             nodes,

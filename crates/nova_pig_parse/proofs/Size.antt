@@ -1,11 +1,12 @@
 -- The script of a text is small, since its tokens are few and nest little.
-use Rattle.std.proofs.Common.{◌≡◌, ℕ, suc, ◌+◌, ◌≤◌, Bool, true, false, List, [], ◌∷◌, ◌++◌, length, Option, Some, None, ℤ, refl, ap, sym, subst, ◌∙◌, arith}
+use Rattle.std.proofs.Common.{◌≡◌, ℕ, zero, suc, ◌+◌, ◌<◌, ◌≤◌, Bool, true, false, List, [], ◌∷◌, ◌++◌, length, map, Option, Some, None, Result, Ok, Err, ℤ, refl, ap, sym, subst, ◌∙◌, arith}
 use Rattle.std.specs.Prelude.{if◌then◌else◌, ◌==◌, nat_lt}
-use Rattle.std.specs.List.{AllByRecursion}
+use Rattle.std.specs.List.{AllByRecursion, count_by}
 use Rattle.std.proofs.lemmas.Bool.{ltb-true, ltb-false, eqb-false}
-use Rattle.std.proofs.lemmas.List.{map-append}
+use Rattle.std.proofs.lemmas.List.{map-append, length-append, length-map}
 use Rattle.std.proofs.lemmas.List.Recursion.{is_count_by}
 use Rattle.nova_pig_tree.specs.declared.expression.CompareOp.{CompareOp}
+use Rattle.nova_pig_tree.specs.declared.expression.CompareOp.TheVariants as compare
 use Rattle.nova_pig_tree.specs.declared.expression.Field.{Field}
 use Rattle.nova_pig_tree.specs.declared.expression.CallKind.{CallKind}
 use Rattle.nova_pig_tree.specs.declared.expression.Expr.{Expr}
@@ -17,8 +18,9 @@ use Rattle.nova_pig_tree.specs.declared.statement.Op.{Op}
 use Rattle.nova_pig_tree.specs.declared.statement.Body.{Body}
 use Rattle.nova_pig_tree.specs.declared.statement.Statement.{Statement}
 use Rattle.nova_pig_tree.specs.declared.token.Token.{Token}
-use Rattle.nova_pig_tree.specs.declared.token.Token.TheVariants.{Word, Symbol}
+use Rattle.nova_pig_tree.specs.declared.token.Token.TheVariants.{Ident, Word, Symbol}
 use Rattle.nova_pig_tree.specs.declared.token.Word.TheVariants as w
+use Rattle.nova_pig_tree.specs.declared.token.Symbol.{Symbol as SymbolOf}
 use Rattle.nova_pig_tree.specs.declared.token.Symbol.TheVariants as s
 use Rattle.nova_pig_tree.specs.declared.token.Placed.{Placed}
 use Rattle.nova_pig_grammar.specs.declared.operators.Level.{Level}
@@ -29,12 +31,23 @@ use Rattle.nova_pig_grammar.specs.Operators.{operator, combine}
 use Rattle.nova_pig_grammar.specs.Expression as g
 use Rattle.nova_pig_grammar.specs.Expression.{Part, Derives, IsField}
 use Rattle.nova_pig_grammar.specs.Statement as st
-use Rattle.nova_pig_grammar.specs.Statement.{Tail, Listed, IsItem, IsOp, IsStatement, is_semicolon}
-use Rattle.nova_pig_parse.specs.Limits.{parts, nests, semicolons}
-use Rattle.nova_pig_parse.specs.Parse.{too_deep}
+use Rattle.nova_pig_grammar.specs.Statement.{Tail, Listed, IsItem, IsColumns, IsOp, IsStatement, is_semicolon}
+use Rattle.nova_pig_scan.specs.declared.TheConstants.{MAX_SCRIPT_BYTES}
+use Rattle.nova_pig_scan.specs.Lexemes as lex
+use Rattle.nova_pig_scan.specs.Lexemes.{Text, Lexeme, IsLexeme, sign}
+use Rattle.nova_pig_scan.specs.Text as scan
+use Rattle.nova_pig_scan.specs.Text.{IsTokens}
+use Rattle.nova_pig_parse.specs.declared.text.ParseFault.{ParseFault}
+use Rattle.nova_pig_parse.specs.declared.text.ParseFault.TheVariants as fault
+use Rattle.nova_pig_parse.specs.declared.limit.TheConstants.{MAX_SEMICOLONS, MAX_ASSIGNS}
+use Rattle.nova_pig_parse.specs.Limits.{parts, nests, semicolons, assigns, first_deep}
+use Rattle.nova_pig_parse.specs.Parse.{too_deep, deep_or, limit, cuts, statements}
 use Rattle.nova_pig_parse.specs.Script.{tokens_of, spanned, IsScript, empty, store, define}
-use Rattle.nova_pig_parse.specs.Size.{operators, operators_step, HasShallowItem, HasShallowOp, HasShallowBody, ScriptsAreSmall}
+use Rattle.nova_pig_tree.specs.declared.statement.TheConstants.{MAX_FIELDS}
+use Rattle.nova_pig_tree.specs.Size.{operators, operators_step, IsShallow, HasShallowItem, IsSmallOp, IsSmallBody, IsSmall}
+use Rattle.nova_pig_parse.specs.Size.{ScriptsAreSmall}
 use Rattle.nova_pig_parse.proofs.Deep.{deep_law}
+use Rattle.nova_pig_parse.proofs.Scripts.{Reads, reads}
 
 -- ---- the operators of each variant
 
@@ -230,32 +243,141 @@ items_small (st.begin {ts} {us} d more) n m h c =
     let (k, c1, c2) = split n ts us m c in
     (item_small d n k h c1, tail_small more k m c2)
 
-op_small : {ts : List Token} {o : Op} → IsOp ts o → (n m : ℕ) → n ≤ 64 → counted n ts ≡ Some m → HasShallowOp o
-op_small st.load n m h c = tt
-op_small (st.filter {ts = ts} d) n m h c =
+-- ---- the fields of a BY list are no more than its tokens
+tail_short : {ts : List Token} {fs : List Field} → Tail IsField ts fs → length fs ≤ length ts
+tail_short st.none = omega arith
+tail_short (st.next {ts} {us} d more) =
+    let h = tail_short more in
+    let l = length-append ts us in
+    omega (arith, h, l)
+
+field_tokens : {ts : List Token} {a : Field} → IsField ts a → 1 ≤ length ts
+field_tokens g.plain = omega arith
+field_tokens g.of = omega arith
+field_tokens g.group = omega arith
+field_tokens g.group_of = omega arith
+field_tokens g.of_group = omega arith
+field_tokens g.position = omega arith
+
+list_short : {ts : List Token} {fs : List Field} → Listed IsField ts fs → length fs ≤ length ts
+list_short (st.begin {ts} {us} d more) =
+    let one = field_tokens d in
+    let h = tail_short more in
+    let l = length-append ts us in
+    omega (arith, one, h, l)
+
+columns_short : {ts : List Token} {fs : List Field} → IsColumns ts fs → length fs ≤ length ts
+columns_short (st.single d) = field_tokens d
+columns_short (st.several {ts} d) =
+    let h = list_short d in
+    let l = length-append ts (Symbol s.Close ∷ []) in
+    omega (arith, h, l)
+
+op_small : {ts : List Token} {o : Op} → IsOp ts o → length ts ≤ MAX_FIELDS → (n m : ℕ) → n ≤ 64 → counted n ts ≡ Some m → IsSmallOp o
+op_small st.load most n m h c = tt
+op_small (st.filter {ts = ts} d) most n m h c =
     let up = derived d n m c in
     let low = within n ts m h c in
     omega (arith, up, low)
-op_small (st.foreach d) n m h c = items_small d n m h c
-op_small (st.group v d) n m h c = tt
-op_small st.distinct n m h c = tt
-op_small (st.join d d') n m h c = tt
-op_small (st.union d) n m h c = tt
+op_small (st.foreach d) most n m h c = items_small d n m h c
+op_small (st.group v d) most n m h c = let short = columns_short d in omega (arith, short, most)
+op_small st.distinct most n m h c = tt
+op_small (st.join {b = b} {ts = ts} {us = us} d d') most n m h c =
+    let left = columns_short d in
+    let right = columns_short d' in
+    let l = length-append ts (Symbol s.Comma ∷ Ident b ∷ Word w.By ∷ us) in
+    (omega (arith, left, most, l), omega (arith, right, most, l))
+op_small (st.union d) most n m h c = tt
 
-statement_small : {ts : List Token} {x : Body} → IsStatement ts x → (n m : ℕ) → n ≤ 64 → counted n ts ≡ Some m → HasShallowBody x
-statement_small (st.define {ts = ts} d) n m h c = let (k, c1, c2) = split n ts (Symbol s.Semicolon ∷ []) m c in op_small d n k h c1
-statement_small st.store n m h c = tt
+statement_small : {ts : List Token} {x : Body} → IsStatement ts x → length ts ≤ MAX_FIELDS → (n m : ℕ) → n ≤ 64 → counted n ts ≡ Some m → IsSmallBody x
+statement_small (st.define {ts = ts} d) most n m h c =
+    let (k, c1, c2) = split n ts (Symbol s.Semicolon ∷ []) m c in
+    let l = length-append ts (Symbol s.Semicolon ∷ []) in
+    op_small d (omega (arith, most, l)) n k h c1
+statement_small st.store most n m h c = tt
 
 spanned_body : (ps : List Placed) (x : Body) → (spanned ps x).body ≡ x
 spanned_body [] x = refl
 spanned_body (p ∷ ps) x = refl
 
-shallow : {ps : List Placed} {xs : List Statement} → IsScript ps xs → (n m : ℕ) → n ≤ 64 → counted n (tokens_of ps) ≡ Some m → AllByRecursion (λ s. HasShallowBody s.body) xs
-shallow empty n m h c = tt
-shallow (store ps d) n m h c = (subst HasShallowBody (sym (spanned_body ps _)) (statement_small d n m h c), tt)
-shallow (define ps rest d more) n m h c =
+of_placed : (ps : List Placed) → length ps ≤ MAX_FIELDS → length (tokens_of ps) ≤ MAX_FIELDS
+of_placed ps most = let l = length-map ps (λ (p : Placed). p.token) in omega (arith, l, most)
+
+each_small : {ps : List Placed} {xs : List Statement} → IsScript ps xs → length ps ≤ MAX_FIELDS → (n m : ℕ) → n ≤ 64 → counted n (tokens_of ps) ≡ Some m
+    → AllByRecursion (λ s. IsSmallBody s.body) xs
+each_small empty most n m h c = tt
+each_small (store ps d) most n m h c = (subst IsSmallBody (sym (spanned_body ps _)) (statement_small d (of_placed ps most) n m h c), tt)
+each_small (define ps rest d more) most n m h c =
     let (k, c1, c2) = split n (tokens_of ps) (tokens_of rest) m (sym (ap (counted n) (map-append (λ (p : Placed). p.token) ps rest)) ∙ c) in
-    (subst HasShallowBody (sym (spanned_body ps _)) (statement_small d n k h c1), shallow more k m (within n (tokens_of ps) k h c1) c2)
+    let l = length-append ps rest in (
+      subst IsSmallBody (sym (spanned_body ps _)) (statement_small d (of_placed ps (omega (arith, most, l))) n k h c1),
+      each_small more (omega (arith, most, l)) k m (within n (tokens_of ps) k h c1) c2,
+    )
+
+-- ---- the tokens of a text are no more than its bytes
+name_bytes : (us : Text) → lex.IsName us → 1 ≤ length us
+name_bytes [] is = absurd is
+name_bytes (b ∷ us) is = omega arith
+
+digit_bytes : (us : Text) → lex.IsDigits us → 1 ≤ length us
+digit_bytes [] is = absurd is
+digit_bytes (b ∷ us) is = omega arith
+
+one_byte : (b : ℕ) (bs : Text) → 1 ≤ length (b ∷ bs)
+one_byte b bs = omega arith
+
+sign_bytes : (x : SymbolOf) → 1 ≤ length (sign x)
+sign_bytes s.Assign = one_byte 61 []
+sign_bytes (s.Compare compare.Eq) = one_byte 61 (61 ∷ [])
+sign_bytes (s.Compare compare.Ne) = one_byte 33 (61 ∷ [])
+sign_bytes (s.Compare compare.Lt) = one_byte 60 []
+sign_bytes (s.Compare compare.Le) = one_byte 60 (61 ∷ [])
+sign_bytes (s.Compare compare.Gt) = one_byte 62 []
+sign_bytes (s.Compare compare.Ge) = one_byte 62 (61 ∷ [])
+sign_bytes s.Plus = one_byte 43 []
+sign_bytes s.Minus = one_byte 45 []
+sign_bytes s.Star = one_byte 42 []
+sign_bytes s.Open = one_byte 40 []
+sign_bytes s.Close = one_byte 41 []
+sign_bytes s.Comma = one_byte 44 []
+sign_bytes s.Semicolon = one_byte 59 []
+sign_bytes s.Dot = one_byte 46 []
+sign_bytes s.Colon = one_byte 58 []
+sign_bytes s.ColonColon = one_byte 58 (58 ∷ [])
+sign_bytes s.Question = one_byte 63 []
+
+lexeme_bytes : {us : Text} {x : Lexeme} → IsLexeme us x → 1 ≤ length us
+lexeme_bytes (lex.blank b is) = omega arith
+lexeme_bytes (lex.line_comment us is) = omega arith
+lexeme_bytes (lex.block_comment us is) = omega arith
+lexeme_bytes (lex.identifier us is other another) = name_bytes us is
+lexeme_bytes (lex.keyword us k is same) = name_bytes us is
+lexeme_bytes (lex.group us is same) = name_bytes us is
+lexeme_bytes (lex.number us is) = digit_bytes us is
+lexeme_bytes (lex.long_number us b is ends) = let l = length-append us (b ∷ []) in omega (arith, l)
+lexeme_bytes (lex.position us is) = omega arith
+lexeme_bytes (lex.literal spelled) = omega arith
+lexeme_bytes (lex.symbol x) = sign_bytes x
+
+tokens_few : {at : ℕ} {text : Text} {ps : List Placed} → IsTokens at text ps → length ps ≤ length text
+tokens_few scan.end = omega arith
+tokens_few (scan.gap {us = us} {rest = rest} x longest more) =
+    let h = tokens_few more in
+    let l = length-append us rest in
+    omega (arith, h, l)
+tokens_few (scan.token {us = us} {rest = rest} t x longest more) =
+    let one = lexeme_bytes x in
+    let h = tokens_few more in
+    let l = length-append us rest in
+    omega (arith, one, h, l)
+
+-- the tokens of a text that is short enough
+placed_few : (text : Text) (ps : List Placed) → length text ≤ MAX_SCRIPT_BYTES → IsTokens 0 text ps → length ps ≤ MAX_FIELDS
+placed_few text ps short lexed =
+    let h = tokens_few lexed in
+    let top : length text ≤ 65536 = short in
+    let few : length ps ≤ 65536 = omega (arith, h, top) in
+    few
 
 -- ---- each statement has its `;`
 abbrev closes : List Token → ℕ
@@ -287,10 +409,25 @@ few (define ps rest d more) =
     let later = few more in
     omega (arith, both, one, later)
 
+small : (ps : List Placed) (xs : List Statement) → length ps ≤ MAX_FIELDS → semicolons ps ≤ MAX_SEMICOLONS → first_deep ps ≡ None → IsScript ps xs → IsSmall xs
+small ps xs short most deep script =
+    let c = has_count 0 ps (deep_law ps ∙ deep) in
+    let all = few script in
+    let is = closes_all ps in
+    let top : semicolons ps ≤ 257 = most in
+    let few_of : length xs ≤ 257 = omega (arith, all, is, top) in
+    record { few = few_of; each = each_small script short 0 c.0 (omega arith) c.1 }
+
+-- what is read of the tokens of a text within the limits is small
+pub read_small : (text : Text) (ps : List Placed) (xs : List Statement) → length text ≤ MAX_SCRIPT_BYTES → IsTokens 0 text ps → limit ps ≡ None
+    → Ok xs ≡ statements (length text) (cuts ps) → IsSmall xs
+read_small text ps xs short lexed l r = by (nat_lt MAX_SEMICOLONS (semicolons ps)) refl (first_deep ps) refl l
+  where
+    by : (v : Bool) → nat_lt MAX_SEMICOLONS (semicolons ps) ≡ v → (d : Option ℕ) → first_deep ps ≡ d
+        → (if v then Some fault.TooLong else deep_or d (if nat_lt MAX_ASSIGNS (assigns ps) then Some fault.TooLong else None)) ≡ None → IsSmall xs
+    by true e d f h = absurd cc
+    by false e (Some at) f h = absurd cc
+    by false e None f h = small ps xs (placed_few text ps short lexed) (ltb-false _ _ e) f (subst (Reads (length text) ps) (sym r) (reads (length text) ps))
+
 pub scripts_small : ScriptsAreSmall
-scripts_small text xs r =
-    let c = has_count 0 r.tokens (deep_law r.tokens ∙ r.within.shallow) in
-    let all = few r.script in
-    let is = closes_all r.tokens in
-    let most = r.within.few_semicolons in
-    record { few = omega (arith, all, is, most); shallow = shallow r.script 0 c.0 (omega arith) c.1 }
+scripts_small text xs r = small r.tokens xs (placed_few text r.tokens r.short r.lexed) r.within.few_semicolons r.within.shallow r.script

@@ -5,10 +5,10 @@ ghost use Rattle.nova_pig_parse.specs.Limits as limits;
 ghost use Rattle.nova_pig_parse.specs.Parse as spec;
 
 use crate::text::ParseFault;
-use nova_pig_tree::{Placed, Symbol, Token, Word};
+use nova_pig_tree::{MAX_STATEMENTS, Placed, Symbol, Token, Word};
 
 /// The most `;` of a script: one for each definition, and one for the STORE.
-const MAX_SEMICOLONS: usize = 257;
+const MAX_SEMICOLONS: usize = MAX_STATEMENTS;
 
 /// The most `=` of a script: one for each alias.
 const MAX_ASSIGNS: usize = 256;

@@ -61,6 +61,7 @@ fn fault_of(fault: TextFault) -> ParseFault
 }
 
 /// The script that the text is, or its first fault.
+#[tactic(auto, using(crate::proofs::Size::read_small))]
 fn script_of(alloc: Global, text: &str) -> Result<Script, ParseFault>
     ensures { spec.IsParseOf (spec.parse_of text.now) result }
 {
@@ -97,8 +98,8 @@ pub fn texts_are_settled()
     ensures { TextsAreSettled }
 {}
 
-/// The script of a text has at most 257 statements, and at most 64 operators in each of its
-/// expressions, so no descent into one is deep.
+/// The script of a text has at most 257 statements, at most 64 operators in each of its
+/// expressions and at most 65,536 fields in each BY list, so no descent into one is deep.
 pub fn scripts_are_small()
     ensures { ScriptsAreSmall }
 {}

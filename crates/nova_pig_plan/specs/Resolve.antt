@@ -62,7 +62,7 @@ abbrev pub GivesPlan : Result Plan PlanFault → Result Plan Place → Type 0
 GivesPlan (Ok p) answer = answer ≡ Ok p
 GivesPlan (Err f) answer = IsFirst (said f) answer
 
--- the fault with its number; it may yield to want of memory
+-- the fault with its number
 abbrev pub IsNumbered : FaultAt → PlanFault → Type 0
-IsNumbered (at.At c n) f = IsFirst (said f) (Err (c, n))
+IsNumbered (at.At c n) f = Means f c n
 IsNumbered at.NoMemory f = f ≡ fault.NoMemory

@@ -1,22 +1,13 @@
 //! Which column a reference means.
-ghost use Rattle.std.specs.Prelude.{◌≡◌, IfOk};
-ghost use Rattle.nova_pig_plan.specs.Answers.{AnswersAs, Answer};
+ghost use Rattle.std.specs.Prelude.{◌≡◌};
+ghost use Rattle.nova_pig_plan.specs.Answers.{AnswersAs};
 ghost use Rattle.nova_pig_plan.specs.Columns as spec;
 
 use crate::fault::{Cause, Stop};
 use crate::scope::{ScopeColumn, Text};
+use nova_pig_algebra::narrow;
 use nova_pig_tree::Field;
 use nova_value::Kind;
-
-/// A place as the plan numbers it. No list of the program is so long that this fails.
-pub(crate) fn narrow(place: usize) -> Result<u32, Stop>
-    ensures { AnswersAs result (Ok place) }
-{
-    match u32::try_from(place) {
-        Ok(n) => Ok(n),
-        Err(_) => Err(Stop::NoMemory),
-    }
-}
 
 /// Whether both are the same text.
 pub(crate) fn same_text(a: &[u8], b: &[u8]) -> bool
@@ -72,12 +63,12 @@ pub(crate) fn field_of(columns: &[ScopeColumn<'_>], field: &Field) -> Result<u32
     ensures { AnswersAs result (spec.field_of columns.now field.now) }
 {
     match field {
-        Field::Plain(name) => narrow(place_named(columns, name.bytes())?),
-        Field::Of(alias, name) => narrow(place_from(columns, alias.bytes(), name.bytes())?),
+        Field::Plain(name) => Ok(narrow(place_named(columns, name.bytes())?)?),
+        Field::Of(alias, name) => Ok(narrow(place_from(columns, alias.bytes(), name.bytes())?)?),
         Field::GroupOf(_) => Err(Stop::Fault(Cause::UnknownField)),
         Field::At(n) => {
             if *n < columns.len() as u64 {
-                narrow(*n as usize)
+                Ok(narrow(*n as usize)?)
             } else {
                 Err(Stop::Fault(Cause::UnknownField))
             }

@@ -1,17 +1,20 @@
 //! What expressions are in a plan, and what they give.
-ghost use Rattle.std.specs.Prelude.{◌≡◌, Ok, Err};
+ghost use Rattle.std.specs.Prelude.{◌≡◌, true, Ok, Err};
+ghost use Rattle.nova_pig_algebra.specs.Literals.{has_values};
 ghost use Rattle.nova_pig_plan.specs.Answers.{AnswersAs, if_not};
 ghost use Rattle.nova_pig_plan.specs.declared.fault.Cause.TheVariants as fault;
 ghost use Rattle.nova_pig_plan.specs.Exprs as spec;
+ghost use Rattle.nova_value.specs.declared.value.Kind.TheVariants.{Text};
 ghost use Rattle.nova_pig_algebra.specs.declared.node.PlanExpr.TheVariants as p;
+ghost use Rattle.nova_pig_algebra.specs.declared.node.Sort.TheVariants.{Of};
 
-use crate::columns::{field_of, kind_at, narrow, place_named, same_text};
+use crate::columns::{field_of, kind_at, place_named, same_text};
 use crate::fault::{Cause, Stop};
 use crate::scope::{Scope, ScopeColumn, Typed};
-use nova_pig_algebra::{PlanExpr, Sort};
-use nova_pig_tree::{CallKind, Expr, Field};
+use crate::valued::{ValuedExpr, number_is_long, text_is_value};
+use nova_pig_algebra::{PlanExpr, Sort, narrow};
+use nova_pig_tree::{CallKind, Expr, Field, Str};
 use nova_value::Kind;
-use sqlite_items::Boxed;
 use std::alloc::Global;
 
 /// Whether it is a long.
@@ -56,10 +59,30 @@ fn are_alike(a: Sort, b: Sort) -> bool
 
 /// An expression with what it gives.
 fn typed(alloc: Global, expr: PlanExpr, sort: Sort) -> Result<Typed, Stop>
+    requires { has_values expr ≡ true }
     ensures { AnswersAs result (Ok (spec.typed expr sort)) }
 {
-    let expr = Boxed::new(alloc, expr)?;
+    let expr = ValuedExpr::new(alloc, expr)?;
     Ok(Typed { expr, sort })
+}
+
+/// A number.
+#[tactic(auto, using(crate::proofs::Literals::num))]
+fn number(alloc: Global, n: i64) -> Result<Typed, Stop>
+    ensures { AnswersAs result (Ok (spec.typed (p.Num n) spec.long)) }
+{
+    number_is_long(n);
+    typed(alloc, PlanExpr::Num(n), Sort::Of(Kind::Long))
+}
+
+/// The text of a literal.
+#[tactic(auto, using(crate::proofs::Literals::lit))]
+fn literal(alloc: Global, text: &Str) -> Result<Typed, Stop>
+    ensures { AnswersAs result (Ok (spec.typed (p.Lit text.now) (Of Text))) }
+{
+    let text = text.copy(alloc)?;
+    text_is_value(&text);
+    typed(alloc, PlanExpr::Lit(text), Sort::Of(Kind::Text))
 }
 
 /// The rules for kinds: WrongType where one is broken.
@@ -74,6 +97,7 @@ pub(crate) fn check(holds: bool) -> Result<(), Stop>
 }
 
 /// `group` alone, which is a value where there is one BY column.
+#[tactic(auto, using(crate::proofs::Literals::group_col))]
 fn whole_group(alloc: Global, by: &[ScopeColumn<'_>]) -> Result<Typed, Stop>
     ensures { AnswersAs result (spec.whole_group by.now) }
 {
@@ -84,6 +108,7 @@ fn whole_group(alloc: Global, by: &[ScopeColumn<'_>]) -> Result<Typed, Stop>
 }
 
 /// A reference over a group and outside a call.
+#[tactic(auto, using(crate::proofs::Literals::group_col))]
 fn group_field(
     alloc: Global,
     bag: &[u8],
@@ -116,6 +141,7 @@ fn group_field(
 }
 
 /// A reference outside a call.
+#[tactic(auto, using(crate::proofs::Literals::col))]
 fn ref_of(alloc: Global, scope: &Scope<'_>, field: &Field) -> Result<Typed, Stop>
     ensures { AnswersAs result (spec.ref_of scope.now field.now) }
 {
@@ -134,6 +160,7 @@ fn ref_of(alloc: Global, scope: &Scope<'_>, field: &Field) -> Result<Typed, Stop
 }
 
 /// A call of the plan.
+#[tactic(auto, using(crate::proofs::Literals::agg))]
 fn agg(alloc: Global, kind: CallKind, column: Option<u32>, sort: Sort) -> Result<Typed, Stop>
     ensures { AnswersAs result (Ok (spec.typed (p.Agg kind column) sort)) }
 {
@@ -212,39 +239,53 @@ fn call_of(
 }
 
 /// The expression of the plan, or the first fault: its parts from left to right, then itself.
+#[tactic(auto, using(crate::proofs::Literals::neg, crate::proofs::Literals::negated, crate::proofs::Literals::add, crate::proofs::Literals::sub, crate::proofs::Literals::mul, crate::proofs::Literals::compare, crate::proofs::Literals::and, crate::proofs::Literals::or, crate::proofs::Literals::choice))]
 pub fn expr_of(expr: &Expr, alloc: Global, scope: &Scope<'_>) -> Result<Typed, Stop>
     ensures { AnswersAs result (spec.expr_of scope.now expr.now) }
 {
     match expr {
-        Expr::Num(n) => typed(alloc, PlanExpr::Num(*n), Sort::Of(Kind::Long)),
-        Expr::Lit(text) => {
-            let text = text.copy(alloc)?;
-            typed(alloc, PlanExpr::Lit(text), Sort::Of(Kind::Text))
-        }
+        Expr::Num(n) => number(alloc, *n),
+        Expr::Lit(text) => literal(alloc, text),
         Expr::Ref(field) => ref_of(alloc, scope, field),
         Expr::Call { kind, alias, field } => call_of(alloc, scope, *kind, alias.bytes(), field),
         Expr::Neg(a) => {
             let a = expr_of(a.get(), alloc, scope)?;
             check(is_long(a.sort))?;
-            typed(alloc, PlanExpr::Neg(a.expr), Sort::Of(Kind::Long))
+            typed(
+                alloc,
+                PlanExpr::Neg(a.expr.into_boxed()),
+                Sort::Of(Kind::Long),
+            )
         }
         Expr::Add(a, b) => {
             let a = expr_of(a.get(), alloc, scope)?;
             let b = expr_of(b.get(), alloc, scope)?;
             check(is_long(a.sort) && is_long(b.sort))?;
-            typed(alloc, PlanExpr::Add(a.expr, b.expr), Sort::Of(Kind::Long))
+            typed(
+                alloc,
+                PlanExpr::Add(a.expr.into_boxed(), b.expr.into_boxed()),
+                Sort::Of(Kind::Long),
+            )
         }
         Expr::Sub(a, b) => {
             let a = expr_of(a.get(), alloc, scope)?;
             let b = expr_of(b.get(), alloc, scope)?;
             check(is_long(a.sort) && is_long(b.sort))?;
-            typed(alloc, PlanExpr::Sub(a.expr, b.expr), Sort::Of(Kind::Long))
+            typed(
+                alloc,
+                PlanExpr::Sub(a.expr.into_boxed(), b.expr.into_boxed()),
+                Sort::Of(Kind::Long),
+            )
         }
         Expr::Mul(a, b) => {
             let a = expr_of(a.get(), alloc, scope)?;
             let b = expr_of(b.get(), alloc, scope)?;
             check(is_long(a.sort) && is_long(b.sort))?;
-            typed(alloc, PlanExpr::Mul(a.expr, b.expr), Sort::Of(Kind::Long))
+            typed(
+                alloc,
+                PlanExpr::Mul(a.expr.into_boxed(), b.expr.into_boxed()),
+                Sort::Of(Kind::Long),
+            )
         }
         Expr::Compare { op, a, b } => {
             let a = expr_of(a.get(), alloc, scope)?;
@@ -254,8 +295,8 @@ pub fn expr_of(expr: &Expr, alloc: Global, scope: &Scope<'_>) -> Result<Typed, S
                 alloc,
                 PlanExpr::Compare {
                     op: *op,
-                    a: a.expr,
-                    b: b.expr,
+                    a: a.expr.into_boxed(),
+                    b: b.expr.into_boxed(),
                 },
                 Sort::Condition,
             )
@@ -264,18 +305,26 @@ pub fn expr_of(expr: &Expr, alloc: Global, scope: &Scope<'_>) -> Result<Typed, S
             let a = expr_of(a.get(), alloc, scope)?;
             let b = expr_of(b.get(), alloc, scope)?;
             check(is_condition(a.sort) && is_condition(b.sort))?;
-            typed(alloc, PlanExpr::And(a.expr, b.expr), Sort::Condition)
+            typed(
+                alloc,
+                PlanExpr::And(a.expr.into_boxed(), b.expr.into_boxed()),
+                Sort::Condition,
+            )
         }
         Expr::Or(a, b) => {
             let a = expr_of(a.get(), alloc, scope)?;
             let b = expr_of(b.get(), alloc, scope)?;
             check(is_condition(a.sort) && is_condition(b.sort))?;
-            typed(alloc, PlanExpr::Or(a.expr, b.expr), Sort::Condition)
+            typed(
+                alloc,
+                PlanExpr::Or(a.expr.into_boxed(), b.expr.into_boxed()),
+                Sort::Condition,
+            )
         }
         Expr::Not(a) => {
             let a = expr_of(a.get(), alloc, scope)?;
             check(is_condition(a.sort))?;
-            typed(alloc, PlanExpr::Not(a.expr), Sort::Condition)
+            typed(alloc, PlanExpr::Not(a.expr.into_boxed()), Sort::Condition)
         }
         Expr::If { cond, a, b } => {
             let cond = expr_of(cond.get(), alloc, scope)?;
@@ -285,9 +334,9 @@ pub fn expr_of(expr: &Expr, alloc: Global, scope: &Scope<'_>) -> Result<Typed, S
             typed(
                 alloc,
                 PlanExpr::If {
-                    cond: cond.expr,
-                    a: a.expr,
-                    b: b.expr,
+                    cond: cond.expr.into_boxed(),
+                    a: a.expr.into_boxed(),
+                    b: b.expr.into_boxed(),
                 },
                 a.sort,
             )

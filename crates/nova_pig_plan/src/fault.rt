@@ -49,7 +49,7 @@ impl From<Cause> for Stop {
 /// Why a script has no plan, at a statement.
 #[derive(Clone, Copy)]
 pub enum FaultAt {
-    At { cause: Cause, statement: u64 },
+    At { cause: Cause, statement: u32 },
     NoMemory,
 }
 

@@ -1,15 +1,17 @@
 //! The items of a FOREACH.
-ghost use Rattle.std.specs.Prelude.{◌≡◌, Ok, Some, None};
+ghost use Rattle.std.specs.Prelude.{◌≡◌, true, Ok, Some, None};
+ghost use Rattle.nova_pig_algebra.specs.Literals.{has_values};
 ghost use Rattle.nova_pig_plan.specs.Answers.{AnswersAs, AnswersBy};
 ghost use Rattle.nova_pig_tree.specs.declared.expression.Expr.TheViews.{out-Expr};
 ghost use Rattle.nova_pig_plan.specs.Items as spec;
 ghost use Rattle.nova_pig_plan.specs.Kept as kept;
 
-use crate::columns::{field_of, narrow};
+use crate::columns::field_of;
 use crate::exprs::{check, expr_of};
 use crate::fault::{Cause, Stop};
 use crate::scope::{Made, Scope, ScopeColumn, Text};
-use nova_pig_algebra::{PlanExpr, Sort};
+use crate::valued::ValuedExprs;
+use nova_pig_algebra::{PlanExpr, Sort, narrow};
 use nova_pig_tree::{Expr, Field, Item};
 use nova_value::{Kind, Str};
 use sqlite_items::Items;
@@ -160,6 +162,7 @@ fn is_wide(made: &Made<'_>) -> bool
 
 /// One item more. Past the first column too many none is kept.
 fn add<'a>(made: &mut Made<'a>, expr: PlanExpr, column: ScopeColumn<'a>) -> Result<(), Stop>
+    requires { has_values expr ≡ true }
     ensures { AnswersBy (λ _. made.new) result (Ok (kept.with_item made.old expr column.entry)) }
 {
     if is_wide(made) {
@@ -171,6 +174,7 @@ fn add<'a>(made: &mut Made<'a>, expr: PlanExpr, column: ScopeColumn<'a>) -> Resu
 }
 
 /// `*`: each column.
+#[tactic(auto, using(crate::proofs::Literals::col))]
 fn add_all<'a>(made: &mut Made<'a>, columns: &[ScopeColumn<'a>]) -> Result<(), Stop>
     ensures { AnswersBy (λ _. made.new) result (Ok (kept.with_all 0 made.old columns.now)) }
 {
@@ -185,6 +189,7 @@ fn add_all<'a>(made: &mut Made<'a>, columns: &[ScopeColumn<'a>]) -> Result<(), S
 }
 
 /// The BY columns, with the origin `group`.
+#[tactic(auto, using(crate::proofs::Literals::group_col))]
 fn add_flat<'a>(made: &mut Made<'a>, by: &[ScopeColumn<'a>]) -> Result<(), Stop>
     ensures { AnswersBy (λ _. made.new) result (Ok (kept.with_flat 0 made.old by.now)) }
 {
@@ -207,6 +212,7 @@ fn add_flat<'a>(made: &mut Made<'a>, by: &[ScopeColumn<'a>]) -> Result<(), Stop>
 }
 
 /// `FLATTEN(group)`.
+#[tactic(auto, using(crate::proofs::Literals::group_col))]
 fn flatten<'a>(made: &mut Made<'a>, by: &[ScopeColumn<'a>]) -> Result<(), Stop>
     ensures { AnswersBy (λ _. made.new) result (Ok (kept.flattened made.old by.now)) }
 {
@@ -232,7 +238,7 @@ fn add_value<'a>(
     let label = item_label(scope, name, expr)?;
     add(
         made,
-        typed.expr.into_inner(),
+        typed.expr.into_boxed().into_inner(),
         ScopeColumn {
             kind,
             name: label.name,
@@ -281,7 +287,7 @@ pub(crate) fn items_of<'a>(
     ensures { AnswersAs result (kept.items_of scope.now spec.nothing items.now) }
 {
     let mut made = Made {
-        exprs: Items::new(alloc),
+        exprs: ValuedExprs::new(alloc),
         columns: Items::new(alloc),
     };
     for item in items {

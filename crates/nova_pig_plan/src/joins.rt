@@ -5,12 +5,13 @@ ghost use Rattle.nova_pig_plan.specs.Answers.{AnswersAs, AnswersBy};
 ghost use Rattle.nova_pig_plan.specs.Plans as spec;
 
 use crate::aliases::Aliases;
-use crate::columns::{narrow, same_text};
+use crate::columns::same_text;
 use crate::fault::{Cause, Stop};
 use crate::items::{same_kind, text_again};
 use crate::scope::{Channels, Defined, Scope, ScopeColumn, Text};
 use crate::statements::{columns_again, columns_at, defined, fields_of, known, test, ungrouped};
-use nova_pig_algebra::Node;
+use crate::valued::ValuedNode;
+use nova_pig_algebra::{Node, narrow};
 use nova_pig_tree::{Field, Str};
 use nova_value::{Column, Name, Schema};
 use sqlite_items::Items;
@@ -92,7 +93,7 @@ pub(crate) fn load<'a>(
             let input = narrow(at)?;
             let columns = channel_columns(alloc, schema.columns())?;
             Ok(Defined {
-                node: Node::Load { input },
+                node: ValuedNode::new(Node::Load { input }),
                 scope: Scope::Rows { columns },
             })
         }
@@ -158,15 +159,13 @@ fn join_rows<'a>(
     )?;
     test(Cause::WrongType, alike)?;
     let columns = both_sides(alloc, left, right)?;
-    defined(
-        Node::Join {
-            left: left.at,
-            left_by,
-            right: right.at,
-            right_by,
-        },
-        columns,
-    )
+    let node = Node::Join {
+        left: left.at,
+        left_by,
+        right: right.at,
+        right_by,
+    };
+    defined(ValuedNode::new(node), columns)
 }
 
 /// JOIN: both aliases, that neither is grouped, and then its BY lists.
@@ -270,7 +269,7 @@ pub(crate) fn union<'a>(
     let columns = first_rows(alloc, done, arms)?;
     all_alike(done, columns.as_slice(), arms)?;
     Ok(Defined {
-        node: Node::Union { arms: places },
+        node: ValuedNode::new(Node::Union { arms: places }),
         scope: Scope::Rows { columns },
     })
 }

@@ -35,10 +35,7 @@ fn numbered(fault: FaultAt) -> PlanFault
     ensures { spec.IsNumbered fault result }
 {
     match fault {
-        FaultAt::At { cause, statement } => match u32::try_from(statement) {
-            Ok(number) => fault_of(cause, number),
-            Err(_) => PlanFault::NoMemory,
-        },
+        FaultAt::At { cause, statement } => fault_of(cause, statement),
         FaultAt::NoMemory => PlanFault::NoMemory,
     }
 }
@@ -61,7 +58,13 @@ fn with_schemas(alloc: Global, graph: Graph, channels: &Channels) -> Result<Plan
 {
     let inputs = schemas_of(alloc, channels.inputs.as_slice())?;
     let output = channels.output.1.copy(alloc)?;
-    Plan::new(alloc, graph.nodes, graph.stored, inputs, output)
+    Plan::new(
+        alloc,
+        graph.nodes.into_items(),
+        graph.stored,
+        inputs,
+        output,
+    )
 }
 
 /// The plan of a script over the channels of a task, or the first fault. Statements are tested in

@@ -1,9 +1,10 @@
 //! What is known of an alias.
 ghost use Rattle.std.specs.Prelude.{◌≡◌};
 
-use nova_pig_algebra::{Node, PlanExpr, Sort};
+use crate::valued::{ValuedExpr, ValuedExprs, ValuedNode, ValuedNodes};
+use nova_pig_algebra::Sort;
 use nova_value::{Kind, Name, Schema};
-use sqlite_items::{Boxed, Items};
+use sqlite_items::Items;
 use std::marker::Model;
 
 /// A text where it stands: in the script, in a schema or in the program.
@@ -67,21 +68,21 @@ pub enum Scope<'a> {
 /// An expression of a plan, and what it gives.
 #[derive(Drop)]
 pub struct Typed {
-    pub expr: Boxed<PlanExpr>,
+    pub expr: ValuedExpr,
     pub sort: Sort,
 }
 
 /// The items of a FOREACH: their expressions, and the columns that they make.
 #[derive(Drop)]
 pub struct Made<'a> {
-    pub exprs: Items<PlanExpr>,
+    pub exprs: ValuedExprs,
     pub columns: Items<ScopeColumn<'a>>,
 }
 
 /// What a statement defines.
 #[derive(Drop)]
 pub struct Defined<'a> {
-    pub node: Node,
+    pub node: ValuedNode,
     pub scope: Scope<'a>,
 }
 
@@ -95,6 +96,6 @@ pub struct Channels {
 /// Nodes, and the number of the stored one.
 #[derive(Drop)]
 pub struct Graph {
-    pub nodes: Items<Node>,
+    pub nodes: ValuedNodes,
     pub stored: u32,
 }

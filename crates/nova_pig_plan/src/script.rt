@@ -1,5 +1,6 @@
 //! The plan of a script.
-ghost use Rattle.std.specs.Prelude.{◌≡◌, List, None, Ok, OnOk};
+ghost use Rattle.std.specs.Prelude.{◌≡◌, ◌≤◌, ◌<◌, ◌+◌, List, length, None, Ok, OnOk};
+ghost use Rattle.nova_pig_tree.specs.declared.statement.TheConstants.{MAX_STATEMENTS};
 ghost use Rattle.nova_pig_tree.specs.declared.statement.Statement.{Statement};
 ghost use Rattle.nova_pig_plan.specs.declared.scope.Channels.{Channels};
 ghost use Rattle.nova_pig_plan.specs.declared.scope.Graph.{Graph};
@@ -12,9 +13,8 @@ use crate::fault::{Cause, FaultAt, Stop};
 use crate::joins::{join, load, store, union};
 use crate::scope::{Channels, Defined, Graph};
 use crate::statements::{distinct, filter_rows, foreach, group};
-use nova_pig_algebra::Node;
+use crate::valued::ValuedNodes;
 use nova_pig_tree::{Body, Op, Statement};
-use sqlite_items::Items;
 use std::alloc::Global;
 
 /// What an operator defines, or its first fault.
@@ -71,11 +71,13 @@ fn add<'a>(
     alloc: Global,
     channels: &'a Channels,
     done: &mut Aliases<'a>,
-    nodes: &mut Items<Node>,
+    nodes: &mut ValuedNodes,
     alias: &'a [u8],
     op: &'a Op,
 ) -> Result<(), Stop>
-    ensures { AnswersBy {B = spec.State} (λ _. (done.new, nodes.new)) result (first (spec.define channels.now done.old alias.now op.now) (spec.and_defined done.old nodes.old alias.now)) }
+    requires { length done.old < MAX_STATEMENTS }
+    ensures adds { AnswersBy {B = spec.State} (λ _. (done.new, nodes.new)) result (first (spec.define channels.now done.old alias.now op.now) (spec.and_defined done.old nodes.old alias.now)) }
+    ensures one { OnOk result (length done.new ≡ length done.old + 1) }
 {
     let defined = define(alloc, channels, done, alias, op)?;
     nodes.push(defined.node)?;
@@ -84,7 +86,7 @@ fn add<'a>(
 }
 
 /// The fault of the statement with this number.
-fn at_statement(stop: Stop, statement: u64) -> FaultAt
+fn at_statement(stop: Stop, statement: u32) -> FaultAt
     ensures { result ≡ spec.placed stop statement }
 {
     match stop {
@@ -99,12 +101,13 @@ pub(crate) fn resolve_nodes<'a>(
     script: &'a [Statement],
     channels: &'a Channels,
 ) -> Result<Graph, FaultAt>
+    requires { length script.now ≤ MAX_STATEMENTS }
     ensures { spec.GivesGraph result (spec.graph_of script.now channels.now) }
 {
     let mut done = Aliases::new(alloc);
-    let mut nodes = Items::new(alloc);
+    let mut nodes = ValuedNodes::new(alloc);
     for (at, statement) in script.iter().enumerate() {
-        let number = at as u64 + 1;
+        let number = at as u32 + 1;
         match &statement.body {
             Body::Define { alias, op } => {
                 match add(alloc, channels, &mut done, &mut nodes, alias.bytes(), op) {
@@ -122,7 +125,7 @@ pub(crate) fn resolve_nodes<'a>(
     }
     Err(FaultAt::At {
         cause: Cause::NoStore,
-        statement: script.len() as u64 + 1,
+        statement: script.len() as u32 + 1,
     })
 }
 

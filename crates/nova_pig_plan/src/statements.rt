@@ -5,11 +5,12 @@ ghost use Rattle.nova_pig_plan.specs.Kept as kept;
 ghost use Rattle.nova_pig_plan.specs.Plans as spec;
 
 use crate::aliases::Aliases;
-use crate::columns::{field_of, narrow};
+use crate::columns::field_of;
 use crate::exprs::{check, expr_of, is_condition};
 use crate::fault::{Cause, Stop};
 use crate::items::{column_again, column_at, items_of};
 use crate::scope::{Defined, Scope, ScopeColumn, Text};
+use crate::valued::ValuedNode;
 use nova_pig_algebra::Node;
 use nova_pig_tree::{Expr, Field, Item};
 use sqlite_items::Items;
@@ -34,10 +35,7 @@ pub(crate) fn known<'s, 'a>(
     ensures { AnswersBy (λ k. (k.0, k.1.now)) result (spec.known done.now name.now) }
 {
     match done.find(name) {
-        Some((place, scope)) => match narrow(place) {
-            Ok(at) => Ok((at, scope)),
-            Err(stop) => Err(stop),
-        },
+        Some((at, scope)) => Ok((at, scope)),
         None => Err(Stop::Fault(Cause::UnknownAlias)),
     }
 }
@@ -71,7 +69,10 @@ pub(crate) fn columns_again<'a>(
 }
 
 /// A node with its columns, or TooWide where these are more than 64.
-pub(crate) fn defined<'a>(node: Node, columns: Items<ScopeColumn<'a>>) -> Result<Defined<'a>, Stop>
+pub(crate) fn defined<'a>(
+    node: ValuedNode,
+    columns: Items<ScopeColumn<'a>>,
+) -> Result<Defined<'a>, Stop>
     ensures { AnswersAs result (spec.defined node columns.entry) }
 {
     if columns.len() <= 64 {
@@ -130,10 +131,10 @@ pub(crate) fn filter_rows<'a>(
     let columns = columns_again(alloc, columns)?;
     let node = Node::Filter {
         from: at,
-        cond: typed.expr.into_inner(),
+        cond: typed.expr.into_boxed().into_inner(),
     };
     Ok(Defined {
-        node,
+        node: ValuedNode::new(node),
         scope: Scope::Rows { columns },
     })
 }
@@ -149,13 +150,11 @@ fn foreach_kept<'a>(
 {
     let (at, scope) = known(done, from)?;
     let made = items_of(alloc, scope, items)?;
-    defined(
-        Node::Foreach {
-            from: at,
-            items: made.exprs,
-        },
-        made.columns,
-    )
+    let node = Node::Foreach {
+        from: at,
+        items: made.exprs.into_items(),
+    };
+    defined(ValuedNode::new(node), made.columns)
 }
 
 /// FOREACH over rows or over groups.
@@ -190,7 +189,7 @@ pub(crate) fn group<'a>(
         columns: places,
     };
     Ok(Defined {
-        node,
+        node: ValuedNode::new(node),
         scope: Scope::Group { bag, by, columns },
     })
 }
@@ -207,7 +206,7 @@ pub(crate) fn distinct<'a>(
     let columns = ungrouped(scope)?;
     let columns = columns_again(alloc, columns)?;
     Ok(Defined {
-        node: Node::Distinct { from: at },
+        node: ValuedNode::new(Node::Distinct { from: at }),
         scope: Scope::Rows { columns },
     })
 }

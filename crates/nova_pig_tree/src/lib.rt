@@ -10,5 +10,5 @@ mod token;
 
 pub use expression::{CallKind, CompareOp, Expr, Field};
 pub use nova_value::{Kind, Str};
-pub use statement::{Body, Item, Op, Script, Statement};
+pub use statement::{Body, Item, MAX_FIELDS, MAX_OPERATORS, MAX_STATEMENTS, Op, Script, Statement};
 pub use token::{Placed, Symbol, Token, Word};

@@ -138,8 +138,8 @@ returns-in-Num t c =
     let g = laws.expr-Num c.args.scope.now c.in-Num.n in
     first_of (search rules, grind (arith, common_steps))
 
-pub returns-in_ok-text-in-Lit : goal.returns-in_ok-text-in-Lit
-returns-in_ok-text-in-Lit t c =
+pub returns-in-Lit : goal.returns-in-Lit
+returns-in-Lit t c =
     let g = laws.expr-Lit c.args.scope.now c.in-Lit.text in
     first_of (search rules, grind (arith, common_steps))
 

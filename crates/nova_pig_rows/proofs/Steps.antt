@@ -1,5 +1,6 @@
 -- One more node of a plan.
-use Rattle.std.proofs.Common.{◌≡◌, ◌⊎◌, ℕ, zero, suc, ◌+◌, ◌<◌, ◌≤◌, ◌==◌, Bool, true, false, ◌||◌, if◌then◌else◌, List, [], ◌∷◌, ◌++◌, map, filter, flat_map, drop, length, get_or, slice_get, Option, Some, None, refl, ap, sym, ◌∙◌, inl, inr, arith, add-one, drop-cons, length-append}
+use Rattle.std.proofs.Common.{◌≡◌, ◌⊎◌, ℕ, zero, suc, ◌+◌, ◌<◌, ◌≤◌, ◌==◌, Bool, true, false, ◌||◌, if◌then◌else◌, List, [], ◌∷◌, ◌++◌, map, filter, flat_map, nat_eq, drop, length, get_or, slice_get, Option, Some, None, refl, ap, sym, ◌∙◌, inl, inr, arith, add-one, drop-cons, length-append}
+use Rattle.std.specs.List.{list_any}
 use Rattle.std.proofs.Math.ListN.{drop_of_length-le}
 use Rattle.std.proofs.lemmas.Bool.Decides.{nat_tests}
 use Rattle.nova_pig_algebra.specs.declared.node.PlanExpr.{PlanExpr}
@@ -61,6 +62,16 @@ module _ (tables : List (List Row)) (nodes : List Node) (done : List (List Row))
 -- a node that this reader reads last may change
 pub keeps_but : (reader node : ℕ) (last : List ℕ) (old new newer : List (List Row)) → last_at last node ≡ suc reader → KeepsLater reader last old new → Keeps node new newer → KeepsLater reader last old newer
 keeps_but reader node last old new newer e later one = (one.0 ∙ later.0, λ j h. one.1 j (λ is. let z = ap (last_at last) is in omega (arith, z, e, h)) ∙ later.1 j h)
+
+-- where these are other nodes than the one that may change, their rows stay
+pub others_stay : (node : ℕ) (ks : List ℕ) (old new : List (List Row)) → list_any (λ k. nat_eq k node) ks ≡ false → Keeps node old new → flat_map (rows_at new) ks ≡ flat_map (rows_at old) ks
+others_stay node [] old new e keeps = refl
+others_stay node (k ∷ ks) old new e keeps = go (nat_eq k node) refl e (others_stay node ks old new)
+  where
+    go : (b : Bool) → nat_eq k node ≡ b → (b || list_any (λ j. nat_eq j node) ks) ≡ false
+        → (list_any (λ j. nat_eq j node) ks ≡ false → Keeps node old new → flat_map (rows_at new) ks ≡ flat_map (rows_at old) ks) → flat_map (rows_at new) (k ∷ ks) ≡ flat_map (rows_at old) (k ∷ ks)
+    go true is h more = absurd (grind (arith, h))
+    go false is h more = ap (λ r. r ++ flat_map (rows_at new) ks) (keeps.1 k (λ same. grind (arith, nat_tests, same, is))) ∙ ap (λ r. rows_at old k ++ r) (more h keeps)
 
 pub keeps_twice : (reader : ℕ) (last : List ℕ) (old new newer : List (List Row)) → KeepsLater reader last old new → KeepsLater reader last new newer → KeepsLater reader last old newer
 keeps_twice reader last old new newer a b = (b.0 ∙ a.0, λ j h. b.1 j h ∙ a.1 j h)

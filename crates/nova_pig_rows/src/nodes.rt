@@ -105,13 +105,20 @@ fn last_readers(alloc: Global, nodes: &[Node], stored: u32) -> Result<Vec<usize>
     Ok(last)
 }
 
-/// The rows of each of these, one behind the other.
-fn union<'a>(alloc: Global, work: &Work<'a>, arms: &[u32]) -> Result<Relation<'a>, AllocError>
-    ensures { IfOk result (λ r. r ≡ flat_map (rows_at work.now.relations.items) arms.now) }
+/// UNION: the rows of each arm, one behind the other.
+fn union<'a>(
+    alloc: Global,
+    work: &mut Work<'a>,
+    at: usize,
+    arms: &[u32],
+) -> Result<Relation<'a>, AllocError>
+    ensures rows { IfOk result (λ r. r ≡ flat_map (rows_at work.old.relations.items) arms.now) }
+    ensures keeps { OnOk result (spec.KeepsLater at work.old.last.items work.old.relations.items work.new.relations.items) }
+    ensures last { work.new.last.items ≡ work.old.last.items }
 {
     let mut out = Relation::new(alloc);
-    for arm in arms {
-        out.append_shared(alloc, work.rows(*arm))?;
+    for arm in 0..arms.len() {
+        work.add_arm(alloc, at, arms[arm], &arms[arm + 1..], &mut out)?;
     }
     Ok(out)
 }
@@ -212,7 +219,7 @@ fn rows_of_node<'a>(
             work.rows(*right),
             right_by.as_slice(),
         ),
-        Node::Union { arms } => union(alloc, work, arms.as_slice()),
+        Node::Union { arms } => union(alloc, work, at, arms.as_slice()),
         Node::Distinct { from } => distinct(alloc, work, at, *from),
     }
 }
@@ -242,7 +249,7 @@ fn add_node<'a>(
 
 /// The rows of the stored node, of the tables of the inputs. Each node that it stands on is
 /// evaluated once, and no other. Rows of tables are lent; rows that were made are moved where a
-/// FILTER or a DISTINCT is their last reader.
+/// FILTER, a DISTINCT or a UNION is their last reader.
 pub fn rows_of_nodes<'a>(
     alloc: Global,
     tables: &[Relation<'a>],

@@ -1,5 +1,5 @@
 //! The rows of the nodes so far, kept until their last reader has them.
-ghost use Rattle.std.specs.Prelude.{◌≡◌, ◌+◌, ◌<◌, ◌==◌, [], ◌∷◌, ◌++◌, length, IfOk, OnOk};
+ghost use Rattle.std.specs.Prelude.{◌≡◌, ◌+◌, ◌<◌, ◌==◌, [], ◌∷◌, ◌++◌, length, flat_map, IfOk, OnOk};
 ghost use Rattle.nova_pig_algebra.specs.Tree.{rows_at};
 ghost use Rattle.nova_pig_rows.specs.Picked.{picked};
 ghost use Rattle.nova_pig_rows.specs.Readers as spec;
@@ -40,14 +40,13 @@ impl<'a> Work<'a> {
     }
 
     /// The rows of a node, taken away.
-    fn take(&mut self, alloc: Global, node: u32) -> Relation<'a>
+    fn take(&mut self, alloc: Global, node: usize) -> Relation<'a>
         ensures rows { result ≡ rows_at self.old.relations.items node }
         ensures keeps { spec.Keeps node self.old.relations.items self.new.relations.items }
         ensures last { self.new.last.items ≡ self.old.last.items }
     {
-        let at = node as usize;
-        if at < self.relations.len() {
-            return mem::replace(&mut self.relations[at], Relation::new(alloc));
+        if node < self.relations.len() {
+            return mem::replace(&mut self.relations[node], Relation::new(alloc));
         }
         Relation::new(alloc)
     }
@@ -67,19 +66,32 @@ impl<'a> Work<'a> {
     {
         let last = self.last_of(node as usize);
         if last > 0 && last - 1 == reader {
-            self.take(alloc, node).pick(alloc, picks)
+            self.take(alloc, node as usize).pick(alloc, picks)
         } else {
             pick_shared(alloc, self.rows(node), picks)
         }
     }
 
-    /// Lets go of a node's rows.
-    fn clear(&mut self, alloc: Global, node: usize)
-        ensures keeps { spec.Keeps node self.old.relations.items self.new.relations.items }
+    /// A node's rows behind those of the arms before it, for the UNION with this number, whose
+    /// further arms are `rest`. They are moved where nothing reads them again.
+    pub(crate) fn add_arm(
+        &mut self,
+        alloc: Global,
+        reader: usize,
+        node: u32,
+        rest: &[u32],
+        out: &mut Relation<'a>,
+    ) -> Result<(), AllocError>
+        ensures rows { OnOk result (out.new ≡ out.old ++ rows_at self.old.relations.items node) }
+        ensures rest { OnOk result (flat_map (rows_at self.new.relations.items) rest.now ≡ flat_map (rows_at self.old.relations.items) rest.now) }
+        ensures keeps { OnOk result (spec.KeepsLater reader self.old.last.items self.old.relations.items self.new.relations.items) }
         ensures last { self.new.last.items ≡ self.old.last.items }
     {
-        if node < self.relations.len() {
-            let _released = mem::replace(&mut self.relations[node], Relation::new(alloc));
+        let last = self.last_of(node as usize);
+        if last > 0 && last - 1 == reader && !rest.contains(&node) {
+            out.append(self.take(alloc, node as usize))
+        } else {
+            out.append_shared(alloc, self.rows(node))
         }
     }
 
@@ -91,7 +103,7 @@ impl<'a> Work<'a> {
         for node in 0..self.relations.len() {
             let last = self.last_of(node);
             if last > 0 && reader == last - 1 {
-                self.clear(alloc, node);
+                let _released = self.take(alloc, node);
             }
         }
     }
@@ -101,6 +113,6 @@ impl<'a> Work<'a> {
         ensures { result ≡ rows_at self.entry.relations.items stored }
     {
         let mut work = self;
-        work.take(alloc, stored)
+        work.take(alloc, stored as usize)
     }
 }

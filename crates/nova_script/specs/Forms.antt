@@ -1,5 +1,5 @@
 -- The commands of a session: the forms of their words, one case each, and what a line reads as.
-use Rattle.std.specs.Prelude.{ℕ, ◌^◌, ◌==◌, nat_le, nat_lt, Bool, false, ◌&&◌, ◌||◌, List, [], ◌∷◌, length, take, codes, Option, Some, None, option_map, Result, Ok, Err, if◌then◌else◌}
+use Rattle.std.specs.Prelude.{ℕ, ◌^◌, nat_le, nat_lt, Bool, false, ◌&&◌, List, [], ◌∷◌, length, take, codes, Option, Some, None, option_map, Result, Ok, Err, if◌then◌else◌}
 use Rattle.std.specs.Str.{bytes_eq}
 use Rattle.nova_value.specs.Line.{is_numeral, number_after}
 use Rattle.nova_name.specs.Names.{name_of}

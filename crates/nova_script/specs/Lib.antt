@@ -5,6 +5,7 @@ pub mod Refusals
 pub mod Forms
 pub mod Commands
 pub mod Session
+pub mod Requests
 pub mod Laws
 pub mod Buffered
 pub mod Replying

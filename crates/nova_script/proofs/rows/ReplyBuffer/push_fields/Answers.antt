@@ -1,4 +1,4 @@
-use Rattle.nova_script.proofs.Giving.{pushes_nothing, pushes_then}
+use Rattle.nova_script.proofs.Giving.{pushes_then}
 use Rattle.nova_script.proofs.rows.ReplyBuffer.push_fields.Goals as goal
 
 pub returns : goal.returns

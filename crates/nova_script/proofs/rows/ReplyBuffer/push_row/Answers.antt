@@ -1,4 +1,4 @@
-use Rattle.std.proofs.Common.{◌∷◌, [], append_assoc, refl}
+use Rattle.std.proofs.Common.{◌∷◌, [], refl}
 use Rattle.std.proofs.lemmas.Result.{err_from_is_err_and}
 use Rattle.nova_script.proofs.Giving.{pushes_failed, pushes_then}
 use Rattle.nova_script.proofs.rows.ReplyBuffer.push_row.Goals as goal

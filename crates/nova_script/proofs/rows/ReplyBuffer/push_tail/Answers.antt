@@ -1,4 +1,4 @@
-use Rattle.std.proofs.Common.{◌∙◌, ◌<◌, length, sym, arith}
+use Rattle.std.proofs.Common.{◌<◌, length, sym, arith}
 use Rattle.std.proofs.lemmas.Result.{err_from_is_err_and}
 use Rattle.nova_script.proofs.Giving.{pushes_failed, pushes_nothing, pushes_then}
 use Rattle.nova_script.proofs.Fields.{tail_text-more, tail_text-tab, tail_text-value}

@@ -1,4 +1,4 @@
-use Rattle.std.proofs.Common.{◌≡◌, Ok, Result, take}
+use Rattle.std.proofs.Common.{Ok, take}
 use Rattle.nova_outside.specs.declared.Failed.{Failed}
 use Rattle.nova_value.specs.RowLine.{tail_text}
 use Rattle.nova_script.specs.Replying.{Pushes}

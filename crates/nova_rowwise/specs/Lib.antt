@@ -1,0 +1,10 @@
+pub mod Sources
+pub mod Derived
+pub mod AtOnce
+pub mod OverRows
+pub mod Seen
+pub mod Fits
+pub mod Rule
+pub mod Runs
+pub mod Statements
+pub mod Worked

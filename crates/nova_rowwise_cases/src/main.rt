@@ -1,0 +1,42 @@
+//! `nova_rowwise_cases`: tries the deltas of stateless and lookup tasks, by the cases of the files
+//! that its words name.
+#![tactic(auto)]
+
+mod answers;
+mod channels;
+mod tables;
+mod words;
+
+use answers::Lines;
+use nova_case::{Bench, Step, try_files};
+use std::alloc::{AllocError, Global};
+use std::io;
+
+/// Tasks over the rows of the channels, which stay from one case to the next.
+#[derive(Drop)]
+struct Tasks {
+    lines: Lines,
+}
+
+impl Bench for Tasks {
+    fn begin(&mut self, _alloc: Global) -> Result<(), AllocError> {
+        Ok(())
+    }
+
+    fn answer(&mut self, alloc: Global, step: &Step) -> Result<Vec<u8>, AllocError> {
+        let Ok(text) = str::from_utf8(&step.input) else {
+            return b"no text\n".to_vec(alloc);
+        };
+        let words = step.words.as_str();
+        match step.verb.as_str() {
+            "channel" => self.lines.set(alloc, words, text),
+            "derive" => answers::answer(alloc, words, text, &self.lines),
+            _ => b"no such step\n".to_vec(alloc),
+        }
+    }
+}
+
+fn main(rt: HostRuntime) -> io::Result<()> {
+    let lines = Lines::new(rt.alloc())?;
+    try_files(&rt, &mut Tasks { lines })
+}

@@ -1,0 +1,14 @@
+pub mod CallsInTurn
+pub mod PlanNodes
+pub mod PlanFacts
+pub mod Rows
+pub mod Depends
+pub mod Delta
+pub mod Tables
+pub mod ByPlaces
+pub mod GroupKeys
+pub mod GroupsFit
+pub mod Blocks
+pub mod Whole
+pub mod WholeStates
+pub mod Answered

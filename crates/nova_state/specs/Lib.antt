@@ -1,0 +1,8 @@
+-- what public clauses cite
+pub mod Rule
+pub mod Plan
+pub mod Advance
+pub mod Statements
+-- what private functions say of their answers
+pub mod Calls
+pub mod Fit

@@ -1,3 +1,4 @@
 pub mod Ready
 pub mod Known
 pub mod Machine
+pub mod GoingOn

@@ -8,6 +8,6 @@ mod taking;
 mod tasks;
 
 pub use flight::InFlight;
-pub use laws::{starts_stand, triggers_are_the_machines};
+pub use laws::{standing_goes_on, starts_stand, triggers_are_the_machines};
 pub use rule::{due, first_due};
 pub use taking::capture;

@@ -31,7 +31,7 @@ use Rattle.nova_machine.specs.Needed.{indices}
 use Rattle.nova_machine.specs.Steps.{Step, Run, Chain, after, after_all, may_begin, may_chain}
 use Rattle.nova_machine.specs.Lines.{lines_of}
 use Rattle.nova_machine.specs.Commands.{around, asked_steps, commands_of, load_steps, loaded_channel, loaded_steps, met_steps, read_before, read_rows, refused, rows_for, steps, steps_of, work_steps}
-use Rattle.nova_machine.specs.Building.{built_only, built_steps, built_steps_of, is_built}
+use Rattle.nova_machine.specs.Building.{built_met, built_only, built_steps, built_steps_of, is_built}
 use Rattle.nova_machine.specs.Reachable.{AllMade, IsReachable}
 use Rattle.nova_machine.specs.ReachableLaws.{CommandsMakeSteps, SessionsReach}
 use Rattle.nova_machine.proofs.Turns.{flow_after}
@@ -338,24 +338,27 @@ item_made : (s : State) (x : Item) → CleanItem x → AllMade s (steps_of s x)
 item_made s (Alone line) clean = met_made s (met_by (around s) (command_of line)) (line_asks s line)
 item_made s (WithRows line rows is_ended) clean = load_made s (met_by (around s) (command_of line)) (line_asks s line) rows clean is_ended
 
-built_once : (met : Result Request Refusal) (q : Request) → built_only met ≡ Ok q → met ≡ Ok q
-built_once (Err x) q e = absurd cc
-built_once (Ok x) q e = go (is_built x) e
+-- a command that is built is that of the line
+built_once : (m : Result (Option Command) Refusal) (d : Command) → built_only m ≡ Ok (Some d) → m ≡ Ok (Some d)
+built_once (Err x) d e = absurd cc
+built_once (Ok None) d e = absurd cc
+built_once (Ok (Some x)) d e = go (is_built x) e
   where
-    go : (b : Bool) → (if b then Ok x else Err NotBuilt) ≡ Ok q → ◌≡◌ {A = Result Request Refusal} (Ok x) (Ok q)
+    go : (b : Bool) → (if b then Ok (Some x) else Err NotBuilt) ≡ Ok (Some d) → ◌≡◌ {A = Result (Option Command) Refusal} (Ok (Some x)) (Ok (Some d))
     go true f = f
     go false f = absurd cc
 
-built_asks : (s : State) (o : Option (Result Request Refusal)) → ((q : Request) → o ≡ Some (Ok q) → Asks s q) → (q : Request) → option_map built_only o ≡ Some (Ok q) → Asks s q
-built_asks s None p q e = absurd cc
-built_asks s (Some met) p q e =
-    let same : built_only met ≡ Ok q = cc in
-    p q (ap (λ (m : Result Request Refusal). let o : Option (Result Request Refusal) = Some m in o) (built_once met q same))
+built_asks : (s : State) (line : List ℕ) (q : Request) → built_met (around s) line ≡ Some (Ok q) → Asks s q
+built_asks s line q e = go (built_only (command_of line)) refl e
+  where
+    go : (m : Result (Option Command) Refusal) → built_only (command_of line) ≡ m → met_by (around s) m ≡ Some (Ok q) → Asks s q
+    go (Err x) is f = absurd cc
+    go (Ok None) is f = absurd cc
+    go (Ok (Some d)) is f = let same : request_of (around s) d ≡ Ok q = cc in asks s d (within line d (built_once (command_of line) d is)) q same
 
 built_item_made : (s : State) (x : Item) → CleanItem x → AllMade s (built_steps_of s x)
-built_item_made s (Alone line) clean = met_made s (option_map built_only (met_by (around s) (command_of line))) (built_asks s (met_by (around s) (command_of line)) (line_asks s line))
-built_item_made s (WithRows line rows is_ended) clean =
-    load_made s (option_map built_only (met_by (around s) (command_of line))) (built_asks s (met_by (around s) (command_of line)) (line_asks s line)) rows clean is_ended
+built_item_made s (Alone line) clean = met_made s (built_met (around s) line) (built_asks s line)
+built_item_made s (WithRows line rows is_ended) clean = load_made s (built_met (around s) line) (built_asks s line) rows clean is_ended
 
 items_made : (s : State) (xs : List Item) → AllByRecursion CleanItem xs → AllMade s (steps s xs)
 items_made s [] clean = tt

@@ -12,6 +12,7 @@ pub mod Collecting
 pub mod Kept
 pub mod Reached
 pub mod Commanded
+mod Built
 pub mod Making
 pub mod Running
 pub mod Ready

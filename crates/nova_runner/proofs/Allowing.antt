@@ -1,5 +1,5 @@
 -- What a store asks of a load's commit.
-use Rattle.std.proofs.Common.{◌≡◌, ◌≢◌, inl, inr, ℕ, ◌+◌, ◌<◌, ◌≤◌, ◌^◌, ◌==◌, Bool, true, false, ◌&&◌, [], ◌∷◌, ◌++◌, length, Some, refl, ap, sym, ◌∙◌, subst, arith, sum_by, if◌then◌else◌}
+use Rattle.std.proofs.Common.{◌≡◌, ◌≢◌, inl, inr, ℕ, ◌+◌, ◌<◌, ◌≤◌, ◌^◌, ◌==◌, Bool, true, false, ◌&&◌, [], ◌∷◌, ◌++◌, length, refl, ap, sym, ◌∙◌, subst, arith, sum_by, if◌then◌else◌}
 use Rattle.std.specs.Prelude.{nat_lt, nat_le}
 use Rattle.std.specs.List.{AllByRecursion}
 use Rattle.std.proofs.lemmas.Bool.Decides.{nat_tests}
@@ -16,18 +16,20 @@ use Rattle.nova_meta.specs.Wired.{is_based, is_input}
 use Rattle.nova_commit.specs.declared.commit.Commit.TheVariants as commit
 use Rattle.nova_meta.proofs.Allowed.{and_both}
 use Rattle.nova_meta.proofs.Shelved.{next_kept, placed_all}
-use Rattle.nova_machine.specs.Workflow.{Workflow}
+use Rattle.nova_machine.specs.Workflow.{Workflow, is_input as flow_input}
 use Rattle.nova_machine.specs.State.{with_span}
 use Rattle.nova_machine.proofs.Growth.{at_set}
 use Rattle.nova_machine.proofs.Shelves.{shelved, shelve_more}
 use Rattle.nova_runner.specs.Acts.{has_room}
 use Rattle.nova_runner.specs.Committing.{AreSpare}
+use Rattle.nova_runner.specs.Files.{IsNamed, Piece}
 use Rattle.nova_runner.specs.Readable.{IsReadable}
 use Rattle.nova_meta.specs.Shelves.{IsShelved}
-use Rattle.nova_runner.specs.Workflow.{flow_of, wiring_of}
+use Rattle.nova_runner.specs.Texts.{HasFlow}
+use Rattle.nova_runner.specs.Workflow.{wiring_of}
 use Rattle.nova_runner.specs.declared.ready.Fresh.{Fresh}
 use Rattle.nova_runner.proofs.Leading.{which}
-use Rattle.nova_runner.proofs.Flows.{based_known, input_known}
+use Rattle.nova_runner.proofs.Flows.{free_known, input_known}
 use Rattle.nova_runner.proofs.Loading.{spans_placed}
 
 equal_itself : (n : ℕ) → (n == n) ≡ true
@@ -41,10 +43,10 @@ only_room true true false d x y z p q r s = cc
 only_room true true true false x y z p q r s = cc
 
 -- only room can keep a load's commit out
-pub load_rules : (cat : Entered) (f : Workflow) (c size : ℕ) → flow_of f.text ≡ Some f → cat.begun ≡ true → c < length cat.channels → cat.wiring ≡ wiring_of f → allows cat (commit.Load c cat.next size) ≡ has_room cat (commit.Load c cat.next size)
-load_rules cat f c size read begun below wired =
+pub load_rules : (cat : Entered) (f : Workflow) (c size : ℕ) → HasFlow f.text f → flow_input f c ≡ true → cat.begun ≡ true → c < length cat.channels → cat.wiring ≡ wiring_of f → allows cat (commit.Load c cat.next size) ≡ has_room cat (commit.Load c cat.next size)
+load_rules cat f c size read input begun below wired =
     only_room cat.begun (nat_lt c (length cat.channels)) (is_input cat.wiring c) (cat.next == cat.next) (nat_le (total (shelf_at cat c) + size) bound) (may_rise (shelf_at cat c).version) (nat_lt cat.next bound)
-    begun (grind (arith, nat_tests)) (subst (λ w. is_input w c ≡ true) (sym wired) (input_known f read c)) (equal_itself cat.next)
+    begun (grind (arith, nat_tests)) (subst (λ w. is_input w c ≡ true) (sym wired) (input_known f read c ∙ input)) (equal_itself cat.next)
 
 -- room for a load leaves its number below the bound
 pub load_low : (cat : Entered) (c size : ℕ) → has_room cat (commit.Load c cat.next size) ≡ true → cat.next < 2 ^ 62
@@ -58,14 +60,22 @@ load_fit cat c size room =
     let is : nat_le (total (shelf_at cat c) + size) bound ≡ true = (and_both (nat_le (total (shelf_at cat c) + size) bound) (may_rise (shelf_at cat c).version && nat_lt cat.next bound) room).0 in
     grind (arith, nat_tests)
 
-pub load_readable : (cat : Entered) (f : Workflow) (c size : ℕ) → flow_of f.text ≡ Some f → cat.wiring ≡ wiring_of f → IsReadable cat → has_room cat (commit.Load c cat.next size) ≡ true → IsReadable (applied cat (commit.Load c cat.next size))
-load_readable cat f c size read wired is room =
+-- what a catalog names behind a load's commit is below its next number again
+pub below_next : (cat : Entered) (c size : ℕ) → ((p : Piece) → IsNamed cat p → p.block < cat.next) → (w : Content) (b z : ℕ) → Names (applied cat (commit.Load c cat.next size)) w b z → b < cat.next + 1
+below_next cat c size below (StatePart t part) b z named = let lt = below (record { content = StatePart t part; block = b; size = z }) named in omega (arith, lt)
+below_next cat c size below (Channel d i j) b z named = elim (which cat c size d (interval_of i j b z) named) as (λ _. b < cat.next + 1) [
+  | inl old ↦ let lt = below (record { content = Channel d i j; block = b; size = z }) old in omega (arith, lt)
+  | inr new ↦ let e = ap (λ (x : Interval). x.block) new.1 in omega (arith, e)
+]
+
+pub load_readable : (cat : Entered) (f : Workflow) (c size : ℕ) → HasFlow f.text f → flow_input f c ≡ true → cat.wiring ≡ wiring_of f → IsReadable cat → has_room cat (commit.Load c cat.next size) ≡ true → IsReadable (applied cat (commit.Load c cat.next size))
+load_readable cat f c size read input wired is room =
     let low = load_low cat c size room in
     let based = is_based cat.wiring c in
     let sh = shelf_at cat c in
-    let free : based ≡ false = ap (λ w. is_based w c) wired ∙ based_known f read c in
+    let free : based ≡ false = ap (λ w. is_based w c) wired ∙ free_known f read c input in
     record {
-      below = λ p named. below_next cat c size is p.content p.block p.size named;
+      below = λ p named. below_next cat c size is.below p.content p.block p.size named;
       numbered = at_set (λ n (k : Shelved). AreNumbered k.intervals) cat.channels c (next_shelf based sh cat.next size) nothing_shelved is.numbered
           (placed_all (λ (x : Interval). x.block < 2 ^ 62) (interval_of (if based then 0 else sh.version) (sh.version + 1) cat.next size) sh.intervals low (is.numbered c));
       whole = at_set (λ n (k : Shelved). HasPath (spans k.intervals) 0 k.version) cat.channels c (next_shelf based sh cat.next size) nothing_shelved is.whole (longer sh based free (is.shelved c).low cat.next size (is.whole c));
@@ -74,13 +84,6 @@ load_readable cat f c size read wired is room =
       many = length-set cat.channels c (next_shelf based sh cat.next size) ∙ is.many;
     }
   where
-    below_next : (cat : Entered) (c size : ℕ) → IsReadable cat → (w : Content) (b z : ℕ) → Names (applied cat (commit.Load c cat.next size)) w b z → b < cat.next + 1
-    below_next cat c size is (StatePart t part) b z named = let lt = is.below (record { content = StatePart t part; block = b; size = z }) named in omega (arith, lt)
-    below_next cat c size is (Channel d i j) b z named = elim (which cat c size d (interval_of i j b z) named) as (λ _. b < cat.next + 1) [
-      | inl old ↦ let lt = is.below (record { content = Channel d i j; block = b; size = z }) old in omega (arith, lt)
-      | inr new ↦ let e = ap (λ (x : Interval). x.block) new.1 in omega (arith, e)
-    ]
-
     longer : (sh : Shelved) (based : Bool) → based ≡ false → AllByRecursion (λ (y : Interval). y.to ≤ sh.version) sh.intervals → (b z : ℕ) → HasPath (spans sh.intervals) 0 sh.version → HasPath (spans (placed (interval_of (if based then 0 else sh.version) (sh.version + 1) b z) sh.intervals)) 0 (sh.version + 1)
     longer sh based free low b z path =
         let x : Span = record { from = if based then 0 else sh.version; to = sh.version + 1 } in

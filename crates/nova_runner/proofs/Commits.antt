@@ -16,8 +16,10 @@ use Rattle.nova_machine.specs.Workflow.{Workflow}
 use Rattle.nova_runner.specs.Opening.{AreInOrder, AreTaken, IsFirstFlow, IsFirstRefused, IsRefused, IsStuck, HasCommits, HasTaken, IsStuckTold, NotReadTold, TakesCommit}
 use Rattle.nova_runner.specs.declared.opening.NotRead.{NotRead}
 use Rattle.nova_runner.specs.declared.opening.NotRead.TheVariants as not_read
-use Rattle.nova_runner.specs.Workflow.{flow_of, wiring_of}
+use Rattle.nova_runner.specs.Texts.{HasFlow}
+use Rattle.nova_runner.specs.Workflow.{wiring_of}
 use Rattle.nova_runner.proofs.Deciding.{catalog_more}
+use Rattle.nova_runner.proofs.Texts.{one_flow}
 use Rattle.nova_runner.proofs.Readables.{begun, readable, wired}
 
 pub none_taken : (w : Wiring) → HasTaken w [] (blank w)
@@ -78,16 +80,13 @@ stuck w ps i d payload cat lt placed same was never = record {
 
 -- ---- of a workflow
 
-some_flow : (f g : Workflow) → Some f ≡ Some g → f ≡ g
-some_flow f g e = cc
-
 some_entered : (f g : Entered) → Some f ≡ Some g → f ≡ g
 some_entered f g e = cc
 
 heads : (a b : List ℕ) (xs ys : List (List ℕ)) → a ∷ xs ≡ b ∷ ys → a ≡ b
 heads a b xs ys e = cc
 
-module _ (flow : Workflow) (admitted : flow_of flow.text ≡ Some flow) where
+module _ (flow : Workflow) (admitted : HasFlow flow.text flow) where
   -- a first commit with the spelling of the workflow's is that
   first_commit : (payload : List ℕ) (c : Commit) → payload ≡ commit_bytes (commit.Flow flow.text) → Fits c → payload ≡ commit_bytes c → commit.Flow flow.text ≡ c
   first_commit payload c first fits is = spelled_once (commit.Flow flow.text) c tt fits (sym first ∙ is)
@@ -98,7 +97,7 @@ module _ (flow : Workflow) (admitted : flow_of flow.text ≡ Some flow) where
   one_order : (other : Workflow) (cat kat : Entered) (c : Commit) (cs : List Commit) → commit.Flow flow.text ≡ c → IsCatalogOf (wiring_of flow) (c ∷ cs) cat → AreInOrder (c ∷ cs) other kat → cat ≡ kat
   one_order other cat kat c cs same is orders =
       let there : AreInOrder (commit.Flow flow.text ∷ cs) other kat = subst (λ (d : Commit). AreInOrder (d ∷ cs) other kat) (sym same) orders in
-      let one : flow ≡ other = some_flow flow other (sym admitted ∙ there.0) in
+      let one : flow ≡ other = one_flow flow.text flow other admitted there.0 in
       let here = subst (λ (d : Commit). IsCatalogOf (wiring_of flow) (d ∷ cs) cat) (sym same) is in
       some_entered cat kat (sym here.is ∙ ap (λ (f : Workflow). catalog_of (wiring_of f) (commit.Flow flow.text ∷ cs)) one ∙ there.1.is)
 

@@ -17,7 +17,8 @@ use Rattle.nova_machine.specs.State.{State, ended}
 use Rattle.nova_runner.specs.Files.{journal_file}
 use Rattle.nova_runner.specs.Opening.{AreInOrder, AreTaken, HasBadPayload, IsFirstRefused, IsRefused, NoBadStore, NoStoreThere, OneBadStore}
 use Rattle.nova_runner.specs.Stands.{Agrees, FilesStandBut}
-use Rattle.nova_runner.specs.Workflow.{flow_of, wiring_of}
+use Rattle.nova_runner.specs.Texts.{HasFlow}
+use Rattle.nova_runner.specs.Workflow.{wiring_of}
 use Rattle.nova_runner.proofs.Marks.{none_or_one, one_journal, one_mark, one_reading}
 
 -- ---- a list of commits in order
@@ -70,7 +71,7 @@ splits (d ∷ ds) (c ∷ cs) bad more f g e =
 pub record Opens (c : Commit) (cs : List Commit) (flow : Workflow) (cat : Entered) : Type 0 where
   pub text : List ℕ
   pub is : c ≡ commit.Flow text
-  pub read : flow_of text ≡ Some flow
+  pub read : HasFlow text flow
   pub catalog : IsCatalogOf (wiring_of flow) (c ∷ cs) cat
 
 opens : (c : Commit) (cs : List Commit) (flow : Workflow) (cat : Entered) → AreInOrder (c ∷ cs) flow cat → Opens c cs flow cat
@@ -81,7 +82,7 @@ opens (commit.Run t vs m seen b z ps) cs flow cat order = absurd order
 opens (commit.Joined c i j b z) cs flow cat order = absurd order
 opens (commit.Collected kept) cs flow cat order = absurd order
 
-in_order : (c d : Commit) (cs : List Commit) (text : List ℕ) (flow : Workflow) (cat : Entered) → c ≡ d → d ≡ commit.Flow text → flow_of text ≡ Some flow → IsCatalogOf (wiring_of flow) (c ∷ cs) cat → AreInOrder (c ∷ cs) flow cat
+in_order : (c d : Commit) (cs : List Commit) (text : List ℕ) (flow : Workflow) (cat : Entered) → c ≡ d → d ≡ commit.Flow text → HasFlow text flow → IsCatalogOf (wiring_of flow) (c ∷ cs) cat → AreInOrder (c ∷ cs) flow cat
 in_order c d cs text flow cat same is read catalog =
     let whole : commit.Flow text ≡ c = sym (same ∙ is) in
     subst (λ (x : Commit). AreInOrder (x ∷ cs) flow cat) whole (read, subst (λ (x : Commit). IsCatalogOf (wiring_of flow) (x ∷ cs) cat) (sym whole) catalog)

@@ -10,7 +10,8 @@ use Rattle.std.specs.List.{AllByRecursion}
 use Rattle.nova_commit.specs.Commits.{Fits, commit_bytes}
 use Rattle.nova_meta.proofs.Once.{commits_compose}
 use Rattle.nova_machine.specs.Workflow.{Workflow}
-use Rattle.nova_runner.specs.Workflow.{flow_of, wiring_of}
+use Rattle.nova_runner.specs.Texts.{HasFlow}
+use Rattle.nova_runner.specs.Workflow.{wiring_of}
 use Rattle.nova_meta.specs.declared.wiring.Wiring.{Wiring}
 use Rattle.nova_commit.specs.declared.commit.Commit.TheVariants as commit
 use Rattle.nova_meta.specs.Catalog.{Entered, allows, applied, with_commit}
@@ -77,7 +78,7 @@ commits_lead x commits own cat old new s t fresh by leads same named log = recor
   marked = marked_same x cat old new same by.marked;
   log = log;
   agrees = record {
-    read = subst (λ (f : Workflow). flow_of f.text ≡ Some f) (sym leads.flow) by.agrees.read;
+    read = subst (λ (f : Workflow). HasFlow f.text f) (sym leads.flow) by.agrees.read;
     later = by.agrees.later ++ own ∷ [];
     begins = ap (λ (cs : List Commit). cs ++ own ∷ []) by.agrees.begins ∙ ap (λ (f : Workflow). commit.Flow f.text ∷ (by.agrees.later ++ own ∷ [])) (sym leads.flow);
     catalog = subst (λ (f : Workflow). IsCatalogOf (wiring_of f) (commits ++ own ∷ []) (applied cat own)) (sym leads.flow) (catalog_more (wiring_of s.flow) commits own cat by.agrees.catalog leads.fits leads.allowed);

@@ -1,166 +1,356 @@
--- Workflows of texts.
-use Rattle.std.proofs.Common.{◌≡◌, ℕ, zero, suc, ◌<◌, ◌≤◌, ◌^◌, Bool, true, false, List, [], ◌∷◌, length, map, Option, Some, None, refl, ap, sym, ◌∙◌, subst, arith, if◌then◌else◌}
-use Rattle.std.specs.Prelude.{IfSome, slice_index_or, Result, Ok, Err}
+-- Each workflow that a text says keeps what the store rests on.
+use Rattle.std.proofs.Common.{◌≡◌, ◌⊎◌, inl, inr, ℕ, zero, suc, ◌<◌, ◌≤◌, ◌^◌, Bool, true, false, ◌&&◌, ◌||◌, List, [], ◌∷◌, length, map, Option, Some, None, refl, ap, sym, ◌∙◌, subst, arith}
+use Rattle.std.specs.Prelude.{IfSome, is_none, nat_eq, slice_get, slice_index_or, Result, Ok, Err}
 use Rattle.std.specs.Result.{IfOk}
+use Rattle.std.specs.List.{All, list_any}
 use Rattle.std.specs.declared.alloc.AllocError.{AllocError}
-use Rattle.std.specs.Str.{bytes_eq}
+use Rattle.std.proofs.lemmas.Bool.Decides.{nat_tests}
 use Rattle.std.proofs.lemmas.List.Elements.{All-from_get_or}
-use Rattle.std.proofs.lemmas.List.{length-map}
-use Rattle.std.proofs.lemmas.Slice.Eq.{bytes_eq-Decides}
+use Rattle.std.proofs.lemmas.List.Folds.{list_any_at, list_any_none}
+use Rattle.std.proofs.lemmas.List.Quantifiers.{position-Some}
+use Rattle.std.proofs.lemmas.List.{get_or_past, length-map}
+use Rattle.std.proofs.Math.ListN.{get_or-map}
 use Rattle.nova_value.specs.Rows.{IsShape}
-use Rattle.nova_value.proofs.Shapes.{shape_from_test}
 use Rattle.nova_workflow.specs.declared.flow.Channel.{Channel}
+use Rattle.nova_workflow.specs.declared.flow.Flow.{Flow}
+use Rattle.nova_workflow.specs.declared.flow.Input.{Input}
+use Rattle.nova_workflow.specs.declared.flow.Mode.{Mode}
+use Rattle.nova_workflow.specs.declared.flow.Mode.TheVariants as mode
 use Rattle.nova_workflow.specs.declared.flow.Task.{Task}
+use Rattle.nova_workflow.specs.declared.flow.Trigger.{Trigger}
+use Rattle.nova_workflow.specs.declared.flow.Trigger.TheVariants.{OnData, Every, After}
+use Rattle.nova_workflow.specs.Whole.{IsChannel, IsFlow, IsInTime, IsTask}
+use Rattle.nova_workflow.specs.Writers.{writer_of, writes, is_based as based_by}
+use Rattle.nova_flow.proofs.Places.{none_any}
+use Rattle.nova_flow.proofs.WholeFlows.{flows_are_whole}
+use Rattle.nova_pig_algebra.specs.Plan.{IsPlan, Plan}
+use Rattle.nova_pig_pattern.specs.OutputKey.{HasOutputKey}
+use Rattle.nova_pig_pattern.specs.Table.{NoneBased}
+use Rattle.nova_admit.specs.Flows.{HasPattern, HavePatterns, channel_at, input_of, is_new as seen_new}
+use Rattle.nova_admit.specs.TaskPlans.{plan_of}
+use Rattle.nova_admit.specs.declared.plans.Pattern.{Pattern}
+use Rattle.nova_admit.proofs.Schemas.{has_schemas}
 use Rattle.nova_commit.specs.Commits.{Fits, commit_bytes}
 use Rattle.nova_commit.specs.declared.commit.Commit.{Commit}
 use Rattle.nova_commit.specs.declared.commit.Commit.TheVariants as commit
 use Rattle.nova_commit.proofs.Reading.{spelled_once}
+use Rattle.nova_meta.specs.declared.wiring.Edge.{Edge}
 use Rattle.nova_meta.specs.declared.wiring.Wire.{Wire}
 use Rattle.nova_meta.specs.Wired as catalog
-use Rattle.nova_meta.specs.Wired.{IsWiring}
-use Rattle.nova_machine.specs.Workflow.{TaskPlan, Workflow, is_based, is_input, schema_in}
-use Rattle.nova_machine.specs.Keeping.{RunsKeep}
+use Rattle.nova_meta.specs.Wired.{IsWire, IsWiring, no_edge, no_wire}
+use Rattle.nova_machine.specs.Workflow.{TaskPlan, Workflow, channel_in, input_in, is_based, is_input, is_new, no_channel, no_input, no_plan, no_task, output_in, plan_in, schema_in, task_in}
+use Rattle.nova_machine.specs.RunLaws.{IsOwned}
 use Rattle.nova_machine.specs.Sound.{IsWired}
-use Rattle.nova_runner.specs.Opening.{IsFirstFlow, IsRefused, flow_in}
-use Rattle.nova_runner.specs.Workflow.{FlowsAreAdmitted, IsAdmitted, flow_of, raw_flow, raw_schema, raw_text, wires_of, wiring_of}
+use Rattle.nova_machine.proofs.Keeping.{bases_keep}
+use Rattle.nova_runner.specs.Opening.{IsFirstFlow, IsFlowIn, IsNone, IsSaid}
+use Rattle.nova_runner.specs.Texts.{ArePlans, HasFlow, task_plan, workflow_of}
+use Rattle.nova_runner.specs.Workflow.{FlowsAreAdmitted, IsAdmitted, IsPlanned, edge_of, named_by, wire_of, wires_of, wiring_of}
+use Rattle.nova_runner.proofs.Admission.{Allowed, allowed}
+use Rattle.nova_runner.proofs.Texts.{short_text, of_text, text_kept}
 
--- the workflow of a text is the one that is built in, and keeps the text
-if_text : (b : Bool) (f g : Workflow) → (if b then Some f else None) ≡ Some g → f ≡ g
-if_text true f g is = cc
-if_text false f g is = cc
+-- ---- places
 
-pub flow_is : (text : List ℕ) (f : Workflow) → flow_of text ≡ Some f → raw_flow text ≡ f
-unfolding flow_of
-flow_is text f is = if_text (bytes_eq text raw_text) (raw_flow text) f is
+at_place : {X : Type 0} (xs : List X) (k : ℕ) (d : X) → k < length xs → slice_get xs k ≡ Some (slice_index_or xs k d)
+at_place [] k d lt = absurd (omega (arith, lt))
+at_place (x ∷ xs) zero d lt = refl
+at_place (x ∷ xs) (suc k) d lt = at_place xs k d (omega (arith, lt))
 
-pub text_kept : (text : List ℕ) (f : Workflow) → flow_of text ≡ Some f → f.text ≡ text
-text_kept text f is = sym (ap (λ (g : Workflow). g.text) (flow_is text f is))
+all_mapped : {A B : Type 0} (P : B → Type 0) (g : A → B) (xs : List A) (d : A) → ((k : ℕ) → k < length xs → P (g (slice_index_or xs k d))) → All P (map g xs)
+all_mapped P g xs d each =
+    All-from_get_or P (map g xs) (g d) (λ k lt. let long = length-map xs g in let low : k < length xs = omega (arith, lt, long) in subst P (sym (get_or-map g xs k d)) (each k low))
 
--- ---- the one channel
+-- in range or not
+in_or_past : (c n : ℕ) → (c < n) ⊎ (n ≤ c)
+in_or_past c n = grind arith
 
-raw_input : (text : List ℕ) (c : ℕ) → is_input (raw_flow text) c ≡ true
-raw_input text zero = refl
-raw_input text (suc c) = refl
-
-raw_free : (text : List ℕ) (c : ℕ) → is_based (raw_flow text) c ≡ false
-raw_free text zero = refl
-raw_free text (suc c) = refl
-
-raw_wired : (text : List ℕ) (c : ℕ) → (catalog.is_input (wiring_of (raw_flow text)) c ≡ true) × (catalog.is_based (wiring_of (raw_flow text)) c ≡ false)
-unfolding wiring_of
-raw_wired text zero = (refl, refl)
-raw_wired text (suc c) = (refl, refl)
-
-raw_writers : (text : List ℕ) (c : ℕ) → catalog.writer_of (wiring_of (raw_flow text)) c ≡ None
-unfolding wiring_of
-raw_writers text zero = refl
-raw_writers text (suc c) = refl
-
-raw_wiring : (text : List ℕ) → IsWiring (wiring_of (raw_flow text))
-unfolding wiring_of
-raw_wiring text = record {
-  few_channels = omega arith;
-  few_tasks = omega arith;
-  writers = All-from_get_or (λ (writer : Option ℕ). IfSome writer (λ t. t < 0)) (let n : Option ℕ = None in n ∷ []) None (λ i lt. subst (λ (o : Option ℕ). IfSome o (λ t. t < 0)) (sym (none i)) tt);
-  outputs = λ c t is. absurd (let no : None ≡ Some t = sym (none c) ∙ is in cc);
-  tasks = λ t lt. absurd (omega (arith, lt));
-}
-  where
-    none : (c : ℕ) → slice_index_or (let n : Option ℕ = None in n ∷ []) c None ≡ None
-    none zero = refl
-    none (suc c) = refl
-
-raw_shape : (text : List ℕ) (c : ℕ) → c < 1 → IsShape (schema_in (raw_flow text) c)
-raw_shape text zero lt = shape_from_test raw_schema refl
-raw_shape text (suc c) lt = absurd (omega (arith, lt))
-
-raw_news : (text : List ℕ) → IsWired (raw_flow text)
-raw_news text t k new = absurd (cc)
-
-raw_keeps : (text : List ℕ) → RunsKeep (raw_flow text)
-raw_keeps text s at keeps same t lt run = absurd (omega (arith, lt))
-
-raw_admitted : (text : List ℕ) → length text ≤ 1048576 → IsAdmitted text (raw_flow text)
-raw_admitted text few = record {
-  kept = refl;
-  short = few;
-  planned = refl;
-  shaped = raw_shape text;
-  based = λ c. (raw_wired text c).1 ∙ sym (raw_free text c);
-  wiring = raw_wiring text;
-  news = raw_news text;
-  runs = raw_keeps text;
-}
-
-raw_short : (text : List ℕ) (f : Workflow) → flow_of text ≡ Some f → length text ≤ 1048576
-unfolding flow_of
-raw_short text f is = if_same (bytes_eq text raw_text) refl
-  where
-    if_same : (b : Bool) → bytes_eq text raw_text ≡ b → length text ≤ 1048576
-    if_same true same = let long = ap length ((bytes_eq-Decides text raw_text).0 same) in omega (arith, long)
-    if_same false other = absurd (let none : (if false then Some (raw_flow text) else None) ≡ Some f = sym (ap (λ b. let o : Option Workflow = if b then Some (raw_flow text) else None in o) other) ∙ is in cc)
-
-pub flows_are_admitted : FlowsAreAdmitted
-flows_are_admitted text f is = subst (IsAdmitted text) (flow_is text f is) (raw_admitted text (raw_short text f is))
-
--- what holds of each workflow that a text says
-module _ (f : Workflow) (read : flow_of f.text ≡ Some f) where
-  pub always_input : (c : ℕ) → is_input f c ≡ true
-  always_input c = subst (λ (g : Workflow). is_input g c ≡ true) (flow_is f.text f read) (raw_input f.text c)
-
-  pub never_based : (c : ℕ) → is_based f c ≡ false
-  never_based c = subst (λ (g : Workflow). is_based g c ≡ false) (flow_is f.text f read) (raw_free f.text c)
-
-  pub input_known : (c : ℕ) → catalog.is_input (wiring_of f) c ≡ true
-  input_known c = subst (λ (g : Workflow). catalog.is_input (wiring_of g) c ≡ true) (flow_is f.text f read) (raw_wired f.text c).0
-
-  pub based_known : (c : ℕ) → catalog.is_based (wiring_of f) c ≡ false
-  based_known c = subst (λ (g : Workflow). catalog.is_based (wiring_of g) c ≡ false) (flow_is f.text f read) (raw_wired f.text c).1
-
-  pub well_wired : IsWiring (wiring_of f)
-  well_wired = subst (λ (g : Workflow). IsWiring (wiring_of g)) (flow_is f.text f read) (raw_wiring f.text)
-
-  pub shaped : (c : ℕ) → c < length f.channels → IsShape (schema_in f c)
-  shaped c lt = subst (λ (g : Workflow). c < length g.channels → IsShape (schema_in g c)) (flow_is f.text f read) (raw_shape f.text c) lt
-
-  pub no_news : IsWired f
-  no_news = subst IsWired (flow_is f.text f read) (raw_news f.text)
-
-  pub runs_keep : RunsKeep f
-  runs_keep = subst RunsKeep (flow_is f.text f read) (raw_keeps f.text)
-
-  pub no_tasks : f.tasks ≡ []
-  no_tasks = sym (ap (λ (g : Workflow). g.tasks) (flow_is f.text f read))
+writers_at : (xs : List Channel) (c : ℕ) → slice_index_or (map (λ (x : Channel). x.writer) xs) c None ≡ (slice_index_or xs c no_channel).writer
+writers_at [] c = refl
+writers_at (x ∷ xs) zero = refl
+writers_at (x ∷ xs) (suc c) = writers_at xs c
 
 wires_count : (ts : List Task) (ps : List TaskPlan) → length ps ≡ length ts → length (wires_of ts ps) ≡ length ts
 wires_count [] ps long = refl
 wires_count (t ∷ ts) [] long = absurd (omega (arith, long))
 wires_count (t ∷ ts) (p ∷ ps) long = ap suc (wires_count ts ps (omega (arith, long)))
 
+wires_at : (ts : List Task) (ps : List TaskPlan) (t : ℕ) → length ps ≡ length ts → t < length ts → slice_index_or (wires_of ts ps) t no_wire ≡ wire_of (slice_index_or ts t no_task) (slice_index_or ps t no_plan)
+wires_at [] ps t long lt = absurd (omega (arith, lt))
+wires_at (u ∷ ts) [] t long lt = absurd (omega (arith, long))
+wires_at (u ∷ ts) (p ∷ ps) zero long lt = refl
+wires_at (u ∷ ts) (p ∷ ps) (suc t) long lt = wires_at ts ps t (omega (arith, long)) (omega (arith, lt))
+
+same_new : (m : Mode) → seen_new m ≡ is_new m
+same_new mode.New = refl
+same_new mode.All = refl
+
+same_number : (m n : ℕ) → nat_eq m n ≡ true → m ≡ n
+same_number m n e = grind (arith, nat_tests)
+
+same_some : (m n : ℕ) → Some m ≡ Some n → m ≡ n
+same_some m n e = cc
+
+both_hold : (a b : Bool) → a ≡ true → b ≡ true → (a && b) ≡ true
+both_hold true b p q = q
+both_hold false b p q = cc
+
+-- no input that is read as new is written anew
+none_based : (f : Flow) (is : List Input) (k : ℕ) → NoneBased (map (input_of f) is) → is_new (slice_index_or is k no_input).mode ≡ true → (channel_at f (slice_index_or is k no_input).channel).based ≡ true → ⊥
+none_based f [] k none new based = let no : false ≡ true = new in cc
+none_based f (i ∷ is) zero none new based = none.0 (same_new i.mode ∙ new) based
+none_based f (i ∷ is) (suc k) none new based = none_based f is k none.1 new based
+
+in_time : (t : ℕ) (trigger : Trigger) → IsInTime t trigger → IfSome (named_by trigger) (λ other. other < t)
+in_time t OnData is = tt
+in_time t (Every period) is = tt
+in_time t (After task) is = is
+
+-- ---- each task has its pattern
+
+pub record HasPlan (f : Flow) (t : Task) (p : TaskPlan) : Type 0 where
+  pub pattern : Pattern
+  pub has : HasPattern f t pattern
+  pub plan : IsPlan (plan_of pattern)
+  pub is : p ≡ task_plan pattern
+
+plan_at : (f : Flow) (ts : List Task) (qs : List Pattern) (t : ℕ) → HavePatterns f ts qs → ArePlans qs → t < length ts → HasPlan f (slice_index_or ts t no_task) (slice_index_or (map task_plan qs) t no_plan)
+plan_at f [] qs t have are lt = absurd (omega (arith, lt))
+plan_at f (u ∷ ts) [] t have are lt = absurd have
+plan_at f (u ∷ ts) (q ∷ qs) zero have are lt = record { pattern = q; has = have.0; plan = are.0; is = refl }
+plan_at f (u ∷ ts) (q ∷ qs) (suc t) have are lt = plan_at f ts qs t have.1 are.1 (omega (arith, lt))
+
+counted : (f : Flow) (ts : List Task) (qs : List Pattern) → HavePatterns f ts qs → length (map task_plan qs) ≡ length ts
+counted f [] [] have = refl
+counted f [] (q ∷ qs) have = absurd have
+counted f (t ∷ ts) [] have = absurd have
+counted f (t ∷ ts) (q ∷ qs) have = ap suc (counted f ts qs have.1)
+
+-- ---- a workflow that a text says
+
+module _ (text : List ℕ) (f : Flow) (qs : List Pattern) (whole : IsFlow f) (have : HavePatterns f f.tasks qs) (are : ArePlans qs) where
+  abbrev w : Workflow
+  w = workflow_of text f qs
+
+  planned : length w.plans ≡ length w.tasks
+  planned = counted f f.tasks qs have
+
+  task : (t : ℕ) → t < length f.tasks → IsTask f t (task_in w t)
+  task t lt = whole.tasks t (task_in w t) (at_place f.tasks t no_task lt)
+
+  channel : (c : ℕ) → c < length f.channels → IsChannel f c (channel_in w c)
+  channel c lt = whole.channels c (channel_in w c) (at_place f.channels c no_channel lt)
+
+  plan : (t : ℕ) → t < length f.tasks → HasPlan f (task_in w t) (plan_in w t)
+  plan t lt = plan_at f f.tasks qs t have are lt
+
+  admission : (t : ℕ) → t < length f.tasks → Allowed f (task_in w t)
+  admission t lt = let p = plan t lt in allowed f (task_in w t) p.pattern p.has
+
+  -- the task that is said to write a channel does
+  written : (c t : ℕ) → writer_of f.tasks c ≡ Some t → (t < length f.tasks) × ((task_in w t).output ≡ c)
+  written c t is = let found = position-Some (writes c) f.tasks t no_task is in (found.0, same_number (task_in w t).output c found.1)
+
+  known : (c : ℕ) → catalog.writer_of (wiring_of w) c ≡ (channel_in w c).writer
+  unfolding wiring_of
+  known c = writers_at f.channels c
+
+  past : (c : ℕ) → length f.channels ≤ c → channel_in w c ≡ no_channel
+  past c le = get_or_past f.channels c no_channel le
+
+  wire : (t : ℕ) → t < length f.tasks → catalog.wire_at (wiring_of w) t ≡ wire_of (task_in w t) (plan_in w t)
+  unfolding wiring_of
+  wire t lt = wires_at f.tasks (map task_plan qs) t planned lt
+
+  writer : (c : ℕ) → c < length f.channels → catalog.writer_of (wiring_of w) c ≡ writer_of f.tasks c
+  writer c lt = known c ∙ (channel c lt).writer
+
+  -- a channel is written anew where its writer does so
+  anew : (c t : ℕ) → writer_of f.tasks c ≡ Some t → based_by f.tasks c ≡ (task_in w t).based
+  anew c t is = elim (task_in w t).based as (λ b. (task_in w t).based ≡ b → based_by f.tasks c ≡ b) [
+    | true ↦ λ e.
+        let found = position-Some (writes c) f.tasks t no_task is in
+        list_any_at (λ (u : Task). writes c u && u.based) f.tasks t no_task found.0 (both_hold (writes c (task_in w t)) (task_in w t).based found.1 e)
+    | false ↦ λ e.
+        list_any_none (λ (u : Task). writes c u && u.based) f.tasks
+        (All-from_get_or (λ (u : Task). (writes c u && u.based) ≡ false) f.tasks no_task (λ k lt. other k lt e (writes c (task_in w k)) refl))
+  ] refl
+    where
+      other : (k : ℕ) → k < length f.tasks → (task_in w t).based ≡ false → (b : Bool) → writes c (task_in w k) ≡ b → (writes c (task_in w k) && (task_in w k).based) ≡ false
+      other k lt e true here =
+          let output : (task_in w k).output ≡ c = same_number (task_in w k).output c here in
+          let one : k ≡ t = same_some k t (sym (task k lt).writes ∙ ap (writer_of f.tasks) output ∙ is) in
+          ap (λ (b : Bool). b && (task_in w k).based) here ∙ ap (λ (n : ℕ). (task_in w n).based) one ∙ e
+      other k lt e false here = ap (λ (b : Bool). b && (task_in w k).based) here
+
+  abbrev by_writer : Option ℕ → Bool
+  by_writer o = elim o [ None ↦ false | Some t ↦ (catalog.wire_at (wiring_of w) t).based ]
+
+  by_task : (c : ℕ) (o : Option ℕ) → writer_of f.tasks c ≡ o → by_writer o ≡ based_by f.tasks c
+  by_task c None is = sym (none_written f.tasks (none_any (writes c) f.tasks is))
+    where
+      none_written : (ts : List Task) → list_any (writes c) ts ≡ false → based_by ts c ≡ false
+      none_written [] e = refl
+      none_written (t ∷ ts) e = two (writes c t) (list_any (writes c) ts) (none_written ts) e
+        where
+          two : (b r : Bool) → (r ≡ false → based_by ts c ≡ false) → (b || r) ≡ false → ((b && t.based) || based_by ts c) ≡ false
+          two true r go e = cc
+          two false r go e = go e
+  by_task c (Some t) is = let lt = (written c t is).0 in ap (λ (x : Wire). x.based) (wire t lt) ∙ sym (anew c t is)
+
+  based : (c : ℕ) → catalog.is_based (wiring_of w) c ≡ is_based w c
+  based c = elim (in_or_past c (length f.channels)) as (λ _. catalog.is_based (wiring_of w) c ≡ is_based w c) [
+    | inl lt ↦ ap by_writer (writer c lt) ∙ by_task c (writer_of f.tasks c) refl ∙ sym (channel c lt).based
+    | inr le ↦ ap by_writer (known c ∙ ap (λ (x : Channel). x.writer) (past c le)) ∙ sym (ap (λ (x : Channel). x.based) (past c le))
+  ]
+
+  shaped : (c : ℕ) → c < length w.channels → IsShape (schema_in w c)
+  shaped c lt = (channel c lt).shape
+
+  owned : IsOwned w
+  owned t lt = ((task t lt).output, (channel (output_in w t) (task t lt).output).writer ∙ (task t lt).writes)
+
+  written_anew : (t : ℕ) → t < length w.tasks → is_based w (output_in w t) ≡ true
+  written_anew t lt = (channel (output_in w t) (task t lt).output).based ∙ anew (output_in w t) t (task t lt).writes ∙ (admission t lt).anew
+
+  news : IsWired w
+  news t k new = elim (in_or_past t (length f.tasks)) as (λ _. is_based w (input_in w t k).channel ≡ false) [
+    | inl lt ↦ not_based (is_based w (input_in w t k).channel) (none_based f (task_in w t).inputs k (admission t lt).none_based new)
+    | inr le ↦ absurd (let no : is_new (input_in w t k).mode ≡ false = ap (λ (u : Task). is_new (slice_index_or u.inputs k no_input).mode) (get_or_past f.tasks t no_task le) in let clash : true ≡ false = sym new ∙ no in cc)
+  ]
+    where
+      not_based : (b : Bool) → (b ≡ true → ⊥) → b ≡ false
+      not_based true never = absurd (never refl)
+      not_based false never = refl
+
+  is_planned : (t : ℕ) → t < length w.tasks → IsPlanned w t
+  is_planned t lt =
+      let p = plan t lt in
+      let schemas = has_schemas f (task_in w t) (plan_of p.pattern) p.has.plan in
+      let same : (plan_in w t).plan ≡ plan_of p.pattern = ap (λ (x : TaskPlan). x.plan) p.is in
+      record {
+        plan = subst IsPlan (sym same) p.plan;
+        key = subst HasOutputKey (sym same) p.has.key;
+        inputs = ap (λ (x : Plan). x.inputs) same ∙ schemas.inputs;
+        output = ap (λ (x : Plan). x.output) same ∙ schemas.output;
+        pattern = ap (λ (x : TaskPlan). x.pattern) p.is ∙ (admission t lt).pattern p.pattern p.has;
+        anew = written_anew t lt;
+      }
+
+  writers_count : length (wiring_of w).writers ≡ length f.channels
+  unfolding wiring_of
+  writers_count = length-map f.channels (λ (x : Channel). x.writer)
+
+  tasks_count : length (wiring_of w).tasks ≡ length f.tasks
+  unfolding wiring_of
+  tasks_count = wires_count f.tasks (map task_plan qs) planned
+
+  is_wire : (t : ℕ) → t < length f.tasks → IsWire (wiring_of w) t (wire_of (task_in w t) (plan_in w t))
+  is_wire t lt =
+      let is = task t lt in
+      let ins = (task_in w t).inputs in
+      let many = writers_count in
+      let long = length-map ins edge_of in
+      let few = is.few_inputs in
+      let output = is.output in
+      let in_range : (k : ℕ) → k < length ins → (slice_index_or ins k no_input).channel < length f.channels = λ k low. is.inputs k (slice_index_or ins k no_input) (at_place ins k no_input low) in
+      record {
+        few = omega (arith, few, long);
+        inputs = all_mapped (λ (e : Edge). e.channel < length (wiring_of w).writers) edge_of ins no_input (λ k low. let there = in_range k low in omega (arith, there, many));
+        earlier = all_mapped (λ (e : Edge). IfSome (catalog.writer_of (wiring_of w) e.channel) (λ other. other < t)) edge_of ins no_input
+            (λ k low. subst (λ (o : Option ℕ). IfSome o (λ other. other < t)) (sym (writer (slice_index_or ins k no_input).channel (in_range k low))) (is.earlier k (slice_index_or ins k no_input) (at_place ins k no_input low)));
+        output = omega (arith, output, many);
+        writes = writer (output_in w t) output ∙ is.writes;
+        after = in_time t (task_in w t).trigger is.trigger;
+        whole = all_mapped (λ (e : Edge). e.new ≡ true → catalog.is_based (wiring_of w) e.channel ≡ false) edge_of ins no_input (λ k low new. based (slice_index_or ins k no_input).channel ∙ news t k new);
+      }
+
+  wiring : IsWiring (wiring_of w)
+  wiring =
+      let channels = whole.few_channels in
+      let tasks = whole.few_tasks in
+      let many = writers_count in
+      let count = tasks_count in
+      record {
+        few_channels = omega (arith, channels, many);
+        few_tasks = omega (arith, tasks, count);
+        writers = writers_in;
+        outputs = outputs_in;
+        tasks = λ t lt. let low : t < length f.tasks = omega (arith, lt, count) in subst (IsWire (wiring_of w) t) (sym (wire t low)) (is_wire t low);
+      }
+    where
+      in_range : (c : ℕ) (o : Option ℕ) → writer_of f.tasks c ≡ o → IfSome o (λ t. t < length (wiring_of w).tasks)
+      in_range c None is = tt
+      in_range c (Some t) is = let low = (written c t is).0 in let count = tasks_count in omega (arith, low, count)
+
+      writers_in : All (λ (o : Option ℕ). IfSome o (λ t. t < length (wiring_of w).tasks)) (wiring_of w).writers
+      writers_in = All-from_get_or (λ (o : Option ℕ). IfSome o (λ t. t < length (wiring_of w).tasks)) (wiring_of w).writers None
+          (λ c lt. let many = writers_count in let low : c < length f.channels = omega (arith, lt, many) in
+          subst (λ (o : Option ℕ). IfSome o (λ t. t < length (wiring_of w).tasks)) (sym (writer c low)) (in_range c (writer_of f.tasks c) refl))
+
+      outputs_in : (c t : ℕ) → catalog.writer_of (wiring_of w) c ≡ Some t → (catalog.wire_at (wiring_of w) t).output ≡ c
+      outputs_in c t is = elim (in_or_past c (length f.channels)) as (λ _. (catalog.wire_at (wiring_of w) t).output ≡ c) [
+        | inl lt ↦ let there = written c t (sym (writer c lt) ∙ is) in ap (λ (x : Wire). x.output) (wire t there.0) ∙ there.1
+        | inr le ↦ absurd (let no : catalog.writer_of (wiring_of w) c ≡ None = known c ∙ ap (λ (x : Channel). x.writer) (past c le) in let clash : None ≡ Some t = sym no ∙ is in cc)
+      ]
+
+  pub is_admitted : length text ≤ 1048576 → IsAdmitted text w
+  is_admitted short = record {
+    kept = refl;
+    short = short;
+    planned = planned;
+    shaped = shaped;
+    based = based;
+    wiring = wiring;
+    news = news;
+    owned = owned;
+    plans = is_planned;
+    runs = bases_keep w written_anew;
+  }
+
+pub flows_are_admitted : FlowsAreAdmitted
+flows_are_admitted text w has =
+    subst (IsAdmitted text) has.is (is_admitted text has.flow has.patterns (flows_are_whole text has.flow has.read) has.admitted has.plans (short_text text has.flow has.read))
+
+-- what holds of each workflow that a text says
+module _ (f : Workflow) (read : HasFlow f.text f) where
+  pub own : IsAdmitted f.text f
+  own = flows_are_admitted f.text f read
+
+  pub well_wired : IsWiring (wiring_of f)
+  well_wired = own.wiring
+
+  pub shaped_in : (c : ℕ) → c < length f.channels → IsShape (schema_in f c)
+  shaped_in c lt = own.shaped c lt
+
+  pub input_known : (c : ℕ) → catalog.is_input (wiring_of f) c ≡ is_input f c
+  unfolding wiring_of
+  input_known c = ap (λ (o : Option ℕ). is_none o) (writers_at f.channels c)
+
+  -- loads write a channel by changes
+  pub free_known : (c : ℕ) → is_input f c ≡ true → catalog.is_based (wiring_of f) c ≡ false
+  free_known c input = none_based_by (catalog.writer_of (wiring_of f) c) (input_known c ∙ input)
+    where
+      none_based_by : (o : Option ℕ) → is_none o ≡ true → elim o as (λ _. Bool) [ None ↦ false | Some t ↦ (catalog.wire_at (wiring_of f) t).based ] ≡ false
+      none_based_by None is = refl
+      none_based_by (Some t) is = absurd (cc)
+
+  pub free : (c : ℕ) → is_input f c ≡ true → is_based f c ≡ false
+  free c input = sym (own.based c) ∙ free_known c input
+
 -- numbers of channels and tasks are narrow
-pub few_channels : (w : Workflow) → flow_of w.text ≡ Some w → length w.channels < 2 ^ 32
+pub few_channels : (w : Workflow) → HasFlow w.text w → length w.channels < 2 ^ 32
 unfolding wiring_of
 few_channels w read =
     let few = (flows_are_admitted w.text w read).wiring.few_channels in
     let same = length-map w.channels (λ (c : Channel). c.writer) in
     omega (arith, few, same)
 
-pub few_tasks : (w : Workflow) → flow_of w.text ≡ Some w → length w.tasks < 2 ^ 32
+pub few_tasks : (w : Workflow) → HasFlow w.text w → length w.tasks < 2 ^ 32
 unfolding wiring_of
 few_tasks w read =
     let is = flows_are_admitted w.text w read in
     let few = is.wiring.few_tasks in
     let same = wires_count w.tasks w.plans is.planned in
     omega (arith, few, same)
-
-pub wires_none : (ts : List Task) → wires_of ts [] ≡ []
-wires_none [] = refl
-wires_none (t ∷ ts) = refl
-
--- without plans only the writers are known
-pub wired_with : (w : Workflow) (writers : List (Option ℕ)) (wires : List Wire) → w.plans ≡ [] → writers ≡ map (λ (c : Channel). c.writer) w.channels → wires ≡ [] → record { writers = writers; tasks = wires } ≡ wiring_of w
-unfolding wiring_of
-wired_with w writers wires none is empty = λ i. record { writers = is i; tasks = (empty ∙ sym (ap (wires_of w.tasks) none ∙ wires_none w.tasks)) i }
 
 -- ---- of a commit
 
@@ -172,28 +362,27 @@ text_of (commit.Run t vs m seen b z ps) = []
 text_of (commit.Joined c i j b z) = []
 text_of (commit.Collected kept) = []
 
-pub first_read : (payload text : List ℕ) (found : Option Workflow) → payload ≡ commit_bytes (commit.Flow text) → found ≡ flow_of text → IsFirstFlow payload found
-first_read payload text None is read = λ other flow same admitted.
+pub first_read : (payload text : List ℕ) (found : Option Workflow) → payload ≡ commit_bytes (commit.Flow text) → IsSaid text found → IsFirstFlow payload found
+first_read payload text None is said = λ other flow same admitted.
     let one : text_of (commit.Flow text) ≡ text_of (commit.Flow other) = ap text_of (spelled_once (commit.Flow text) (commit.Flow other) tt tt (sym is ∙ same)) in
-    let clash : None ≡ Some flow = read ∙ ap flow_of one ∙ admitted in cc
-first_read payload text (Some flow) is read =
-    let kept = text_kept text flow (sym read) in
-    (is ∙ ap (λ t. commit_bytes (commit.Flow t)) (sym kept), ap flow_of kept ∙ sym read)
+    said flow (subst (λ t. HasFlow t flow) (sym one) admitted)
+first_read payload text (Some flow) is said =
+    let kept = text_kept text flow said in
+    (is ∙ ap (λ t. commit_bytes (commit.Flow t)) (sym kept), of_text text flow said)
 
-first_none : (payload : List ℕ) (c : Commit) → Fits c × (payload ≡ commit_bytes c) → None ≡ flow_in c → IsRefused [] payload
-first_none payload c found none text flow is admitted =
-    let same = spelled_once (commit.Flow text) c tt found.0 (sym is ∙ found.1) in
-    let clash : None ≡ Some flow = none ∙ ap flow_in (sym same) ∙ admitted in cc
+-- the commit of another kind is no workflow's
+first_none : (payload : List ℕ) (c : Commit) (found : Option Workflow) → Fits c × (payload ≡ commit_bytes c) → ((text : List ℕ) → commit.Flow text ≡ c → ⊥) → IsNone found → IsFirstFlow payload found
+first_none payload c None is other none = λ text flow same admitted. other text (spelled_once (commit.Flow text) c tt is.0 (sym same ∙ is.1))
+first_none payload c (Some flow) is other none = absurd none
 
-first_some : (payload : List ℕ) (c : Commit) (flow : Workflow) → payload ≡ commit_bytes c → Some flow ≡ flow_in c → IsFirstFlow payload (Some flow)
-first_some payload (commit.Flow text) flow is some = first_read payload text (Some flow) is some
-first_some payload (commit.Load c b z) flow is some = absurd (cc)
-first_some payload (commit.Tick m) flow is some = absurd (cc)
-first_some payload (commit.Run t vs m seen b z ps) flow is some = absurd (cc)
-first_some payload (commit.Joined c i j b z) flow is some = absurd (cc)
-first_some payload (commit.Collected kept) flow is some = absurd (cc)
+first_of : (payload : List ℕ) (c : Commit) (found : Option Workflow) → Fits c × (payload ≡ commit_bytes c) → IsFlowIn c found → IsFirstFlow payload found
+first_of payload (commit.Flow text) found is said = first_read payload text found is.1 said
+first_of payload (commit.Load c b z) found is none = first_none payload (commit.Load c b z) found is (λ text e. let no = e in cc) none
+first_of payload (commit.Tick m) found is none = first_none payload (commit.Tick m) found is (λ text e. let no = e in cc) none
+first_of payload (commit.Run t vs m seen b z ps) found is none = first_none payload (commit.Run t vs m seen b z ps) found is (λ text e. let no = e in cc) none
+first_of payload (commit.Joined c i j b z) found is none = first_none payload (commit.Joined c i j b z) found is (λ text e. let no = e in cc) none
+first_of payload (commit.Collected kept) found is none = first_none payload (commit.Collected kept) found is (λ text e. let no = e in cc) none
 
-pub first_found : (payload : List ℕ) (c : Commit) (r : Result (Option Workflow) AllocError) → Fits c × (payload ≡ commit_bytes c) → IfOk r (λ found. found ≡ flow_in c) → IfOk r (IsFirstFlow payload)
-first_found payload c (Ok None) found is = first_none payload c found is
-first_found payload c (Ok (Some flow)) found is = first_some payload c flow found.1 is
-first_found payload c (Err e) found is = tt
+pub first_found : (payload : List ℕ) (c : Commit) (r : Result (Option Workflow) AllocError) → Fits c × (payload ≡ commit_bytes c) → IfOk r (IsFlowIn c) → IfOk r (IsFirstFlow payload)
+first_found payload c (Ok found) is said = first_of payload c found is said
+first_found payload c (Err e) is said = tt

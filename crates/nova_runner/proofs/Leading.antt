@@ -29,7 +29,7 @@ use Rattle.nova_runner.specs.Laws.{LoadsLead}
 use Rattle.nova_runner.specs.Stands.{drawn, sketch, Drawn}
 use Rattle.nova_runner.specs.Workflow.{wiring_of}
 use Rattle.nova_runner.specs.declared.ready.Fresh.{Fresh}
-use Rattle.nova_runner.proofs.Flows.{always_input, based_known, never_based, no_news, well_wired}
+use Rattle.nova_runner.proofs.Flows.{free as loose, free_known, own, well_wired}
 use Rattle.nova_runner.proofs.Loading.{drawings, drawn_at, like_added, load_bytes, loaded}
 use Rattle.nova_runner.proofs.Stored.{fine}
 use Rattle.nova_meta.proofs.Sound.{catalogs_are_sound}
@@ -108,9 +108,9 @@ rest_stays s c v rest = λ i. record (add_version s c v) { tasks = ap (λ (t : S
 
 pub loads_lead : LoadsLead
 loads_lead x commits cat files s c entries delta fresh reached rest wired by is_made is number bytes fits allowed =
-    let input = always_input s.flow by.agrees.read c in
+    let input = is_made.1 in
     let taken = loaded s c entries input in
-    let free : is_based cat.wiring c ≡ false = ap (λ (w : Wiring). is_based w c) wired ∙ based_known s.flow by.agrees.read c in
+    let free : is_based cat.wiring c ≡ false = ap (λ (w : Wiring). is_based w c) wired ∙ free_known s.flow by.agrees.read c input in
     let shelved = (catalogs_are_sound (wiring_of s.flow) commits cat (well_wired s.flow by.agrees.read) by.agrees.catalog.is).shelved c in
     let below : c < length s.channels = let n = channels_are_kept s reached in let m = is_made.0 in omega (arith, n, m) in
     let low = λ (d : ℕ). (fine x commits cat files s reached by d).low in
@@ -126,11 +126,11 @@ loads_lead x commits cat files s c entries delta fresh reached rest wired by is_
       flow = refl;
       reached = reached_then;
       at_rest = still;
-      like = like_added cat (ended s) c cat.next (length (spelling_of (load_block cat c delta))) v free (never_based s.flow by.agrees.read c) shelved.low begins;
+      like = like_added cat (ended s) c cat.next (length (spelling_of (load_block cat c delta))) v free (loose s.flow by.agrees.read c input) shelved.low begins;
       stay = λ p named. ap (λ (u : State). bytes_of u p.content) still ∙ stay_content cat s c entries delta fresh low free input here below is number bytes p.content p.block p.size named ∙ ap (λ (u : State). bytes_of u p.content) (sym rest);
       named = λ p named. elim (named_content cat s c entries delta fresh low free input here below is number bytes p.content p.block p.size named) as (λ _. IsNamed cat p ⊎ IsFresh (ended t) (fresh ∷ []) p) [
         | inl old ↦ inl old
         | inr new ↦ inr (subst (λ (u : State). IsFresh u (fresh ∷ []) p) (sym still) new)
       ];
-      paths = λ d h one. let led = hops_have_paths (ended t) (no_news s.flow by.agrees.read) (ended_reachable t reached_then) d h one in (led.0, led.2);
+      paths = λ d h one. let led = hops_have_paths (ended t) (own s.flow by.agrees.read).news (ended_reachable t reached_then) d h one in (led.0, led.2);
     })

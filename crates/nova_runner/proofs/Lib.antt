@@ -1,3 +1,6 @@
+pub mod Texts
+pub mod Admission
+pub mod Planned
 pub mod Flows
 pub mod Fitting
 pub mod Deciding
@@ -16,3 +19,5 @@ pub mod Reopening
 pub mod Made
 pub mod Shows
 pub mod Newest
+pub mod Rooms
+pub mod Ticks

@@ -32,7 +32,7 @@ use Rattle.nova_machine.proofs.Turns.{flow_after}
 use Rattle.nova_runner.specs.Acts.{load_block}
 use Rattle.nova_runner.specs.Stands.{drawn, drawn_kept, drawn_shelved, sketch, Drawn, Sketch}
 use Rattle.nova_runner.specs.LoadLaws.{LoadsBring, LoadsDraw}
-use Rattle.nova_runner.proofs.Flows.{always_input, based_known, never_based}
+use Rattle.nova_runner.proofs.Flows.{free as loose, free_known}
 
 -- ---- drawings
 
@@ -102,10 +102,10 @@ pub loaded : (s : State) (c : ℕ) (entries : List Entry) → flow_input s.flow 
 loaded s c entries input = ap (λ (b : Bool). if b then add_version s c (loaded_version s c entries) else s) input
 
 pub like_after : LoadsDraw
-like_after cat s c b z entries read wired shelved same =
-    let free : is_based cat.wiring c ≡ false = ap (λ (w : Wiring). is_based w c) wired ∙ based_known s.flow read c in
-    like_added cat s c b z (loaded_version s c entries) free (never_based s.flow read c) shelved.low same
-    ∙ ap sketch (sym (loaded s c entries (always_input s.flow read c)))
+like_after cat s c b z entries read wired input shelved same =
+    let free : is_based cat.wiring c ≡ false = ap (λ (w : Wiring). is_based w c) wired ∙ free_known s.flow read c input in
+    like_added cat s c b z (loaded_version s c entries) free (loose s.flow read c input) shelved.low same
+    ∙ ap sketch (sym (loaded s c entries input))
 
 -- ---- the block of a load
 

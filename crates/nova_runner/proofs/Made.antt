@@ -27,10 +27,12 @@ use Rattle.nova_runner.specs.Held.{Held}
 use Rattle.nova_runner.specs.Making.{HasFirst, HasNoneOrFirst, InitCause, IsMadeOrNot, Made, NoLaterMarks, NotBlank, OnlyMade, Unmade}
 use Rattle.nova_runner.specs.Readable.{IsKept}
 use Rattle.nova_runner.specs.Stands.{Agrees, Drawn, FilesStand, StandsBut, StandsBy, Told, drawn, drawn_kept, drawn_shelved, sketch, told_done, told_progress}
-use Rattle.nova_runner.specs.Workflow.{IsAdmitted, flow_of, wires_of, wiring_of}
+use Rattle.nova_runner.specs.Texts.{HasFlow}
+use Rattle.nova_runner.specs.Workflow.{IsAdmitted, wires_of, wiring_of}
 use Rattle.nova_runner.specs.declared.making.InitFault.{InitFault}
 use Rattle.nova_runner.specs.declared.making.InitFault.TheVariants as init
 use Rattle.nova_runner.proofs.Flows.{flows_are_admitted}
+use Rattle.nova_runner.proofs.Texts.{of_text}
 use Rattle.nova_runner.proofs.Readables.{readable}
 
 -- ---- the catalog of a workflow's commit alone draws the machine before its first step
@@ -99,12 +101,12 @@ first_length text =
     let eight = length-length_bytes (length (1 ∷ text)) in
     omega (arith, whole, one, eight)
 
-pub short_first : (text : List ℕ) (w : Workflow) → flow_of text ≡ Some w → length (frame (commit_bytes (commit.Flow text))) < 2 ^ 62
+pub short_first : (text : List ℕ) (w : Workflow) → HasFlow text w → length (frame (commit_bytes (commit.Flow text))) < 2 ^ 62
 short_first text w read = let long = first_length text in let few = (flows_are_admitted text w read).short in omega (arith, long, few)
 
 -- ---- the files of a store of this text
 
-module _ (text : List ℕ) (w : Workflow) (read : flow_of text ≡ Some w) where
+module _ (text : List ℕ) (w : Workflow) (read : HasFlow text w) where
   admitted : IsAdmitted text w
   admitted = flows_are_admitted text w read
 
@@ -116,7 +118,7 @@ module _ (text : List ℕ) (w : Workflow) (read : flow_of text ≡ Some w) where
 
   agrees : Agrees (commit.Flow text ∷ []) first (ended (start w))
   agrees = record {
-    read = ap flow_of admitted.kept ∙ read;
+    read = of_text text w read;
     later = [];
     begins = ap (λ (t : List ℕ). let cs : List Commit = commit.Flow t ∷ [] in cs) (sym admitted.kept);
     catalog = one_commit;
@@ -149,7 +151,7 @@ module _ (text : List ℕ) (w : Workflow) (read : flow_of text ≡ Some w) where
   pub made_by : (store : Held) (a b : List Event) → store.journal.generation ≡ 0 → store.flow ≡ w → store.catalog ≡ first → HasFirst store.journal.length (commit_bytes (commit.Flow text)) a b → OnlyMade a b → Made store text a b
   made_by store a b number flow catalog has only = record {
     generation = number;
-    flow = read ∙ ap (λ (f : Workflow). Some f) (sym flow);
+    flow = subst (HasFlow text) (sym flow) read;
     kept = ap (λ (f : Workflow). f.text) flow ∙ admitted.kept;
     stands = record {
       flow = refl;
@@ -168,7 +170,7 @@ module _ (text : List ℕ) (w : Workflow) (read : flow_of text ≡ Some w) where
 
   pub kept_first : (held : Held) → held.flow ≡ w → held.catalog ≡ first → IsKept held
   kept_first held flow catalog = record {
-    read = ap flow_of (ap (λ (f : Workflow). f.text) flow ∙ admitted.kept) ∙ read ∙ ap (λ (f : Workflow). Some f) (sym flow);
+    read = subst (λ (f : Workflow). HasFlow f.text f) (sym flow) (of_text text w read);
     wired = ap (λ (cat : Entered). cat.wiring) catalog ∙ ap wiring_of (sym flow);
     begun = ap (λ (cat : Entered). cat.begun) catalog;
     readable = readable (wiring_of w) (commit.Flow text ∷ []) held.catalog admitted.wiring (ap (λ (cat : Entered). Some cat) (sym catalog));
@@ -176,7 +178,7 @@ module _ (text : List ℕ) (w : Workflow) (read : flow_of text ≡ Some w) where
 
   pub made_or_not : (files : Files) → HasNoneOrFirst (commit_bytes (commit.Flow text)) files → IsMadeOrNot text files
   made_or_not files (inl none) = inl none
-  made_or_not files (inr (marked, (end, log))) = inr (w, read, files_first files marked log.log)
+  made_or_not files (inr (marked, (end, log))) = inr (w, read, files_first files marked log.log, (first, (stands_first files marked log.log).but))
 
 -- ---- the two files
 
@@ -205,10 +207,10 @@ module _ (a m : List Event) (unmarked : IsUnmarked 0 (current a)) (others : Same
 
 pub not_made : (why : InitFault) (text : List ℕ) (a : List Event) → NotBlank text why → Unmade why text a a
 not_made init.Disk text a is = absurd is
-not_made init.Flow text a is = refl
+not_made (init.Flow why) text a is = refl
 not_made init.NoMemory text a is = refl
 
 pub not_made_cause : (why : InitFault) (text : List ℕ) (n : ℕ) → NotBlank text why → InitCause n n text why
 not_made_cause init.Disk text n is = absurd is
-not_made_cause init.Flow text n is = (is, refl)
+not_made_cause (init.Flow why) text n is = (is, refl)
 not_made_cause init.NoMemory text n is = refl

@@ -18,7 +18,7 @@ use Rattle.nova_runner.proofs.Stored.{drawing, gives, holds}
 use Rattle.nova_runner.specs.Held.{Held}
 use Rattle.std.specs.Bool.{IsTrue}
 use Rattle.std.specs.Result.{IfOk, IfErr, IsErr}
-use Rattle.nova_runner.specs.Reading.{GivesNewest, IsNewestDamage, ReadStops, why_unread}
+use Rattle.nova_runner.specs.Reading.{GivesNewest, IsNewestDamage, IsNewestRead, ReadStops, why_unread}
 use Rattle.nova_path.specs.Intervals.{AreApart}
 use Rattle.nova_channel.proofs.Whole.{tables_are_whole}
 use Rattle.nova_runner.specs.Laws.{NoStepDamage}
@@ -56,7 +56,7 @@ module _ (store : Held) (commits : List Commit) (s : State) (a : List Event) (st
 
   -- a table that wasn't read
   pub stops_is : (b : List Event) (x : Step) (fault : BlockFault) (to : ℕ) → AsksShow c s x → b ≡ a → to ≡ (shelf_at store.catalog c).version → ReadTold (schema_in store.flow c) (current a) intervals 0 to fault → Stopped (why_unread fault) store commits s x a b
-  stops_is b x block.Disk to asks same number told = subst (λ (y : Step). BrokeOff store commits s y a b) (sym asks.0) (subst (λ (h : List Event). BrokeOff store commits s (Show c) a h) (sym same) (record { left = inl (record { stands = stands.by; no_loss = λ p named lost. (named, lost) }); others = λ n free. refl; silent = refl }))
+  stops_is b x block.Disk to asks same number told = subst (λ (y : Step). BrokeOff store commits s y a b) (sym asks.0) (subst (λ (h : List Event). BrokeOff store commits s (Show c) a h) (sym same) (record { left = inl (record { stands = stands.by; no_loss = λ p named lost. (named, lost) }); others = λ n free. refl; silent = refl; room = λ d is. cc }))
   stops_is b x (block.Damaged file at) to asks same number told = subst (λ (y : Step). Stopped (why_unread (block.Damaged file at)) store commits s y a b) (sym asks.0)
       (same, subst (λ n. ReadTold (schema_in s.flow c) (current a) intervals 0 n (block.Damaged file at)) number (subst (λ (f : Workflow). ReadTold (schema_in f c) (current a) intervals 0 to (block.Damaged file at)) stands.flow told))
   stops_is b x block.NoMemory to asks same number told = same
@@ -66,6 +66,11 @@ module _ (h : Bool) (store : Held) (c : ℕ) (a : List Event) (schema : Shape) (
   pub gives_newest : (r : Result TableValue BlockFault) → IfOk r (λ t. t.schema ≡ schema) → (IsTrue h → IfOk r (λ t. HasReadTable schema (current a) (shelf_at store.catalog c).intervals to t.rows)) → IfOk r (λ t. GivesNewest h store c t a)
   gives_newest (Ok t) same reads = λ honest commits s stands. newest_is store commits s a stands c t to number (same ∙ shape) (subst (λ (x : Shape). HasReadTable x (current a) (shelf_at store.catalog c).intervals to t.rows) shape (reads honest))
   gives_newest (Err e) same reads = tt
+
+  pub newest_read : (r : Result TableValue BlockFault) → IfOk r (λ t. t.schema ≡ schema) → (IsTrue h → IfOk r (λ t. HasReadTable schema (current a) (shelf_at store.catalog c).intervals to t.rows)) → IsTrue h → IfOk r (IsNewestRead store c (current a))
+  newest_read (Ok t) same reads honest =
+      (same ∙ shape, subst (λ (x : Shape). HasReadTable x (current a) (shelf_at store.catalog c).intervals (shelf_at store.catalog c).version t.rows) shape (subst (λ n. HasReadTable schema (current a) (shelf_at store.catalog c).intervals n t.rows) number (reads honest)))
+  newest_read (Err e) same reads honest = tt
 
   pub read_stops : (b : List Event) (r : Result TableValue BlockFault) → (IsTrue h → b ≡ a) → (IsTrue h → IfErr r (ReadTold schema (current a) (shelf_at store.catalog c).intervals 0 to)) → IfErr r (λ fault. ReadStops fault h (AsksShow c) store a b)
   read_stops b (Ok t) same told = tt

@@ -21,19 +21,21 @@ use Rattle.nova_runner.specs.Held.{Held}
 use Rattle.nova_runner.specs.Opening.{AreInOrder, AreTaken, HasCommits, IsBadStore, IsOpenedBy, NotReadTold, Opened, UnopenedTold, unread_in}
 use Rattle.nova_runner.specs.Stands.{FilesStandBut, StandsBut}
 use Rattle.nova_runner.specs.Steps.{StoreStands}
-use Rattle.nova_runner.specs.Workflow.{flow_of, wiring_of}
+use Rattle.nova_runner.specs.Texts.{HasFlow}
+use Rattle.nova_runner.specs.Workflow.{wiring_of}
 use Rattle.nova_runner.specs.declared.opening.NotRead.{NotRead}
 use Rattle.nova_runner.specs.declared.opening.NotRead.TheVariants as not_read
 use Rattle.nova_runner.proofs.Deciding.{deciding_files_decide}
 use Rattle.nova_runner.proofs.Damage.{not_bad}
 use Rattle.nova_runner.proofs.Flows.{text_of}
+use Rattle.nova_runner.proofs.Texts.{one_flow}
 use Rattle.nova_runner.proofs.Marks.{one_journal, one_mark, some_is}
 
 heads : (a b : List ℕ) (xs ys : List (List ℕ)) → a ∷ xs ≡ b ∷ ys → a ≡ b
 heads a b xs ys e = cc
 
 -- commits in order that spell the same are of one workflow
-same_flow : (commits : List Commit) (flow f : Workflow) (cat : Entered) (later : List Commit) → AreInOrder commits flow cat → flow_of f.text ≡ Some f → map commit_bytes (commit.Flow f.text ∷ later) ≡ map commit_bytes commits → (flow ≡ f) × IsCatalogOf (wiring_of flow) commits cat
+same_flow : (commits : List Commit) (flow f : Workflow) (cat : Entered) (later : List Commit) → AreInOrder commits flow cat → HasFlow f.text f → map commit_bytes (commit.Flow f.text ∷ later) ≡ map commit_bytes commits → (flow ≡ f) × IsCatalogOf (wiring_of flow) commits cat
 same_flow [] flow f cat later order read same = absurd order
 same_flow (commit.Load c b z ∷ cs) flow f cat later order read same = absurd order
 same_flow (commit.Tick m ∷ cs) flow f cat later order read same = absurd order
@@ -42,7 +44,7 @@ same_flow (commit.Joined c i j b z ∷ cs) flow f cat later order read same = ab
 same_flow (commit.Collected kept ∷ cs) flow f cat later order read same = absurd order
 same_flow (commit.Flow text ∷ cs) flow f cat later order read same =
     let one : f.text ≡ text = ap text_of (spelled_once (commit.Flow f.text) (commit.Flow text) tt tt (heads _ _ (map commit_bytes later) (map commit_bytes cs) same)) in
-    (some_is flow f (sym order.0 ∙ ap flow_of (sym one) ∙ read), order.1)
+    (one_flow text flow f order.0 (subst (λ t. HasFlow t f) one read), order.1)
 
 landed_once : (ds : List Done) → map landed (map landed ds) ≡ map landed ds
 landed_once [] = refl

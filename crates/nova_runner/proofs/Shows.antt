@@ -1,5 +1,6 @@
 -- A channel is shown, or its reply fails.
 use Rattle.std.proofs.Common.{◌≡◌, ℕ, List, [], ◌∷◌, map, Option, refl, ap, sym, ◌∙◌, subst}
+use Rattle.nova_outside.specs.Disk.{Files}
 use Rattle.nova_outside.specs.History.{Event, Replied, Outcome, current}
 use Rattle.nova_outside.specs.Replies.{HasReplied, HasRepliedInPart, after_replies}
 use Rattle.nova_outside.proofs.ReplyLemmas.{replies_grow}
@@ -8,17 +9,20 @@ use Rattle.nova_journal.specs.Log.{LogTo}
 use Rattle.nova_commit.specs.Commits.{commit_bytes}
 use Rattle.nova_meta.specs.Catalog.{Entered, shelf_at}
 use Rattle.nova_commit.specs.declared.commit.Commit.{Commit}
-use Rattle.nova_machine.specs.Workflow.{Workflow, channel_in}
+use Rattle.nova_machine.specs.Workflow.{Workflow, channel_in, schema_in}
 use Rattle.nova_machine.specs.State.{State, ended, newest, newest_table}
 use Rattle.nova_machine.specs.Steps.{Step, Show}
 use Rattle.nova_machine.specs.Replies.{reply_to}
+use Rattle.nova_runner.specs.Acts.{IsStepDamage}
 use Rattle.nova_runner.specs.Files.{IsSettled, journal_file}
 use Rattle.nova_runner.specs.Held.{Held}
-use Rattle.nova_runner.specs.Reading.{shown_text}
+use Rattle.nova_runner.specs.Reading.{IsNewestDamage, ShownTold, UnshownGave, shown_text, unshown_by}
 use Rattle.nova_runner.specs.Stands.{Drawn}
 use Rattle.nova_runner.specs.Steps.{AsksShow, Done, HeldBack, LosesNone, StoreStands}
 use Rattle.nova_runner.proofs.Deciding.{deciding_files_decide, lost_same}
-use Rattle.nova_channel.specs.Reading.{block_file}
+use Rattle.nova_block.specs.declared.fault.BlockFault.{BlockFault}
+use Rattle.nova_block.specs.declared.fault.BlockFault.TheVariants as block
+use Rattle.nova_channel.specs.Reading.{ReadTold, block_file}
 use Rattle.nova_runner.proofs.Loading.{drawings, drawn_at}
 
 current_after : (h : List Event) (pieces : List (List ℕ)) (n : ℕ) → current (after_replies h pieces) n ≡ current h n
@@ -61,10 +65,25 @@ reply_is store commits a s c t stands newest_one =
     ∙ ap (λ n. shown_text (channel_in s.flow c).name n t) version
     ∙ ap (λ (u : TableValue). shown_text (channel_in s.flow c).name (newest s c) u) newest_one
 
+-- why a table wasn't read says why it wasn't shown
+pub unread_told : (store : Held) (c : ℕ) (files : Files) (fault : BlockFault) → ReadTold (schema_in store.flow c) files (shelf_at store.catalog c).intervals 0 (shelf_at store.catalog c).version fault → ShownTold store c files (unshown_by fault)
+unread_told store c files block.Disk told = tt
+unread_told store c files (block.Damaged file at) told = told
+unread_told store c files block.NoMemory told = tt
+
+-- and gave nothing
+pub unread_gave : (store : Held) (c : ℕ) (a b : List Event) (fault : BlockFault) → b ≡ a → UnshownGave store c a b (unshown_by fault)
+unread_gave store c a b block.Disk same = same
+unread_gave store c a b (block.Damaged file at) same = same
+unread_gave store c a b block.NoMemory same = same
+
 module _ (store : Held) (commits : List Commit) (s : State) (x : Step) (c : ℕ) (t : TableValue) (a m b : List Event)
-    (stands : StoreStands store commits a s) (asks : AsksShow c s x) (newest_one : t ≡ newest_table s c) (same : m ≡ a) where
+    (stands : StoreStands store commits a s) (asks : AsksShow c s x) (newest_one : t ≡ newest_table s c) (same : m ≡ a) (none : (file at : ℕ) → IsNewestDamage store c (current a) file at → ⊥) where
   given : List ℕ
   given = shown_text (channel_in store.flow c).name (shelf_at store.catalog c).version t
+
+  no_damage : (file at : ℕ) → IsStepDamage s.flow store.catalog (current a) (Show c) file at → ⊥
+  no_damage file at damage = none file at (subst (λ (f : Workflow). IsStepDamage f store.catalog (current a) (Show c) file at) (sym stands.flow) damage)
 
   pub shown_done : HasReplied m b (shown_text (channel_in store.flow c).name (shelf_at store.catalog c).version t) → Done store store commits s x (reply_to s x) a b
   shown_done replied =
@@ -76,6 +95,8 @@ module _ (store : Held) (commits : List Commit) (s : State) (x : Step) (c : ℕ)
         no_loss = lost_replied a b (reply_to s (Show c)) here s.flow store.catalog;
         settled = settled_replied a b (reply_to s (Show c)) here store.journal.generation store.catalog;
         replied = replies_grow a b (reply_to s (Show c)) here;
+        undamaged = no_damage;
+        room = λ d is. cc;
       })
 
   pub shown_in_part : HasRepliedInPart m b (shown_text (channel_in store.flow c).name (shelf_at store.catalog c).version t) → HeldBack store commits s x a b
@@ -87,4 +108,6 @@ module _ (store : Held) (commits : List Commit) (s : State) (x : Step) (c : ℕ)
         given = here.given;
         front = here.front;
         replied = replies_grow a b here.given here.replied;
+        undamaged = no_damage;
+        room = λ d is. cc;
       })

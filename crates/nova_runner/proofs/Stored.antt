@@ -1,10 +1,12 @@
 -- Blocks that are stored.
-use Rattle.std.proofs.Common.{◌≡◌, inl, inr, ℕ, zero, suc, ◌<◌, ◌≤◌, false, List, [], ◌∷◌, length, refl, ap, sym, ◌∙◌, subst, arith, sum_by}
+use Rattle.std.proofs.Common.{◌≡◌, ◌⊎◌, inl, inr, ℕ, zero, suc, ◌<◌, ◌≤◌, true, false, List, [], ◌∷◌, length, Result, Ok, Err, refl, ap, sym, ◌∙◌, subst, arith, sum_by}
 use Rattle.std.specs.Prelude.{slice_index_or}
 use Rattle.std.proofs.lemmas.List.{length-map}
 use Rattle.std.proofs.lemmas.List.Sums.{sum_by-cons}
 use Rattle.nova_outside.specs.Disk.{Files}
 use Rattle.nova_delta.specs.Merge.{DeltaValue}
+use Rattle.nova_block.specs.Files.{HoldsBlock, ReadsFile}
+use Rattle.nova_block.proofs.Contents.{files_read}
 use Rattle.nova_path.specs.Lists.{IsOneOf}
 use Rattle.nova_path.specs.Shelf.{Rises}
 use Rattle.nova_path.specs.Intervals.{size_of, spans}
@@ -18,8 +20,8 @@ use Rattle.nova_commit.specs.declared.commit.Commit.{Commit}
 use Rattle.nova_meta.specs.Catalog.{Entered, Shelved, nothing_shelved, shelf_at}
 use Rattle.nova_meta.specs.Named.{Channel, Content, Names, State as StatePart}
 use Rattle.nova_meta.proofs.Sound.{catalogs_are_sound}
-use Rattle.nova_machine.specs.Workflow.{Workflow, schema_in}
-use Rattle.nova_machine.specs.Versions.{Keeps}
+use Rattle.nova_machine.specs.Workflow.{Workflow, is_based, schema_in}
+use Rattle.nova_machine.specs.Versions.{IsKept}
 use Rattle.nova_machine.specs.State.{State, block_at, ended, kept_at}
 use Rattle.nova_machine.specs.Reachable.{IsReachable}
 use Rattle.nova_machine.specs.Sound.{IsFine}
@@ -27,11 +29,11 @@ use Rattle.nova_machine.proofs.Counted.{channels_are_kept}
 use Rattle.nova_machine.proofs.Keeping.{reachable_keeps}
 use Rattle.nova_machine.proofs.Reached.{sound}
 use Rattle.nova_runner.specs.Files.{IsStored, Piece}
-use Rattle.nova_runner.specs.Laws.{NoLossIsKept, StoredIsNotLost}
+use Rattle.nova_runner.specs.Laws.{IsBlockOrLost, NoLossIsKept, StoredIsNotLost}
 use Rattle.nova_runner.specs.Stands.{Drawn, IsLost, StandsBut, StandsBy, drawn_kept, drawn_shelved}
 use Rattle.nova_runner.specs.Workflow.{wiring_of}
 use Rattle.nova_runner.proofs.Fitting.{blocks_are_deltas}
-use Rattle.nova_runner.proofs.Flows.{never_based, no_news, no_tasks, runs_keep, shaped, well_wired}
+use Rattle.nova_runner.proofs.Flows.{own, shaped_in, well_wired}
 use Rattle.nova_runner.proofs.Loading.{drawings, drawn_at}
 
 in_shelves : (xs : List Shelved) (c : ℕ) (y : Interval) → IsOneOf (slice_index_or xs c nothing_shelved).intervals y → c < length xs
@@ -51,18 +53,22 @@ module _ (x : ℕ) (commits : List Commit) (cat : Entered) (files : Files) (s : 
   pub lengths : length cat.channels ≡ length s.flow.channels
   lengths = sym (length-map cat.channels drawn_shelved) ∙ ap (λ (ds : List Drawn). length ds) (drawings cat (ended s) by.agrees.same) ∙ length-map s.channels drawn_kept ∙ channels_are_kept s reached
 
-  pub fine : (c : ℕ) → IsFine false (kept_at s c)
-  fine c = subst (λ b. IsFine b (kept_at s c)) (never_based s.flow by.agrees.read c) ((sound s (no_news s.flow by.agrees.read) reached).channels c)
+  pub fine : (c : ℕ) → IsFine (is_based s.flow c) (kept_at s c)
+  fine c = (sound s (own s.flow by.agrees.read).news reached).channels c
 
-  pub keeps : (c : ℕ) → Keeps (kept_at s c).versions
-  keeps c = reachable_keeps s (runs_keep s.flow by.agrees.read) reached c (never_based s.flow by.agrees.read c)
+  -- its versions keep what they don't write, or all its spans begin at 0
+  pub keeps : (c : ℕ) → IsKept (kept_at s c).versions (kept_at s c).shelf
+  keeps c = elim (is_based s.flow c) as (λ b. is_based s.flow c ≡ b → IsKept (kept_at s c).versions (kept_at s c).shelf) [
+    | true ↦ λ e. inr ((fine c).bases e)
+    | false ↦ λ e. inl (reachable_keeps s (own s.flow by.agrees.read).runs reached c e)
+  ] refl
 
   -- the file of a block that is stored is read as that block
   pub stored_is_read : (c : ℕ) (y : Interval) → IsOneOf (shelf_at cat c).intervals y → IsStored files (ended s) (record { content = Channel c y.from y.to; block = y.block; size = y.size }) → IsRead (schema_in s.flow c) files y (block_at s c y.from y.to)
   stored_is_read c y one is =
       let below = let lt = in_shelves cat.channels c y one in let same = lengths in let all : c < length s.flow.channels = omega (arith, lt, same) in all in
-      let shape = shaped s.flow by.agrees.read c below in
-      let delta = blocks_are_deltas s reached (no_tasks s.flow by.agrees.read) c shape y.from y.to in
+      let shape = shaped_in s.flow by.agrees.read c below in
+      let delta = blocks_are_deltas s s.flow.text reached (own s.flow by.agrees.read) c shape y.from y.to in
       let few = three_bytes_each (block_at s c y.from y.to) shape delta in
       let room = ((catalogs_are_sound (wiring_of s.flow) commits cat (well_wired s.flow by.agrees.read) by.agrees.catalog.is).shelved c).room in
       let size = within (shelf_at cat c).intervals y one in
@@ -80,7 +86,7 @@ module _ (x : ℕ) (commits : List Commit) (cat : Entered) (files : Files) (s : 
   pub gives : (c : ℕ) → GivesBlocks (schema_in s.flow c) files (kept_at s c).versions (shelf_at cat c).intervals
   gives c = record {
     rises = subst Rises (sym (drawing c).1) (fine c).rises;
-    kept = inl (keeps c);
+    kept = subst (IsKept (kept_at s c).versions) (sym (drawing c).1) (keeps c);
     each = each;
   }
     where
@@ -109,3 +115,14 @@ no_loss_is_kept x y commits later was cat old new s t reached same before after 
         absurd (stored_is_not_lost x commits was old s p reached before.but earlier.0 (before.stored p earlier.0) (subst (λ (f : Workflow). IsLost f old p) same earlier.1))
   ];
 }
+
+-- what a block's file reads as: a block, or damaged, so that the block is lost
+read_or_lost : (flow : Workflow) (files : Files) (c from to block size : ℕ) (one : Result DeltaValue ℕ) → ReadsFile (schema_in flow c) size (files (block_file block)) one →
+    ((d : DeltaValue) × HoldsBlock (schema_in flow c) size (files (block_file block)) d) ⊎ IsLost flow files (record { content = Channel c from to; block = block; size = size })
+read_or_lost flow files c from to block size (Ok d) read = inl (d, read)
+read_or_lost flow files c from to block size (Err at) read = inr (at, read)
+
+pub is_block_or_lost : IsBlockOrLost
+is_block_or_lost flow files c from to block size bytes =
+    let read = files_read (schema_in flow c) size (files (block_file block)) bytes in
+    read_or_lost flow files c from to block size read.0 read.1

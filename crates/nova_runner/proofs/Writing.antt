@@ -1,5 +1,6 @@
 -- Blocks are put, and then their commit is appended.
-use Rattle.std.proofs.Common.{◌≡◌, ◌≢◌, ◌⊎◌, inl, inr, ℕ, ◌+◌, ◌*◌, List, [], ◌∷◌, ◌++◌, length, map, Option, Some, refl, ap, sym, ◌∙◌, subst, arith}
+use Rattle.std.proofs.Common.{◌≡◌, ◌≢◌, ◌⊎◌, inl, inr, ℕ, ◌+◌, ◌*◌, ◌<◌, List, [], ◌∷◌, ◌++◌, length, map, Option, Some, None, refl, ap, sym, ◌∙◌, subst, arith}
+use Rattle.std.specs.Prelude.{IsSome, true}
 use Rattle.nova_outside.specs.Disk.{Files, LeavesSameBut, OneChanges, Only, SameBut, SameOutcomes}
 use Rattle.nova_outside.specs.History.{Event, LeftNow, Meanwhile, Outcome, Since, Valid, current, replies}
 use Rattle.nova_outside.proofs.Outcomes.{stays}
@@ -7,19 +8,22 @@ use Rattle.nova_journal.specs.Log.{BeforeOrAfter, IsLog, LogTo}
 use Rattle.nova_journal.specs.Marks.{Holds, IsIn}
 use Rattle.nova_path.specs.Lists.{IsOneOf}
 use Rattle.nova_channel.specs.Reading.{block_file}
-use Rattle.nova_commit.specs.Commits.{commit_bytes}
-use Rattle.nova_meta.specs.Catalog.{Entered, applied}
+use Rattle.nova_commit.specs.Commits.{Fits, commit_bytes}
+use Rattle.nova_meta.specs.Catalog.{Entered, allows, applied}
 use Rattle.nova_commit.specs.declared.commit.Commit.{Commit}
+use Rattle.nova_commit.specs.declared.commit.Commit.TheVariants as commit
 use Rattle.nova_machine.specs.Workflow.{Workflow}
 use Rattle.nova_machine.specs.State.{State, ended}
 use Rattle.nova_runner.specs.Acts.{MayChange}
 use Rattle.nova_runner.specs.Committing.{Added, ArePut, AreSpare, Leads, LeavesAllBut, Touched, number_of}
 use Rattle.nova_runner.specs.Files.{Decides, IsNamed, IsSettled, IsStored, Piece, journal_file}
 use Rattle.nova_runner.specs.Held.{Held}
+use Rattle.nova_runner.specs.Opening.{AreInOrder, IsRead}
 use Rattle.nova_runner.specs.Stands.{IsLost, StandsBut}
 use Rattle.nova_runner.specs.Steps.{IsKeptBy, IsLeft, LosesNone, StoreStands}
+use Rattle.nova_runner.specs.Workflow.{wiring_of}
 use Rattle.nova_runner.specs.declared.ready.Fresh.{Fresh}
-use Rattle.nova_runner.proofs.Deciding.{commits_lead, deciding_files_decide, lost_same, rebuilt}
+use Rattle.nova_runner.proofs.Deciding.{catalog_more, commits_lead, deciding_files_decide, lost_same, rebuilt}
 use Rattle.nova_runner.proofs.Stored.{stored_is_not_lost}
 
 since_now : (h : List Event) (t : ℕ) (image : Files) (said : List ℕ) → LeftNow h image said → Since h t image said
@@ -196,3 +200,34 @@ in_host_still x end cat own fresh a m puts is = (
     newest = λ y lt. puts.reads (4 * y + 1) (λ f one e. omega (arith, e)) ∙ is.1.newest y lt;
   },
 )
+
+-- one commit more, that is allowed behind those in order
+in_order_more : (commits : List Commit) (flow : Workflow) (cat : Entered) (own : Commit) → AreInOrder commits flow cat → Fits own → allows cat own ≡ true → AreInOrder (commits ++ own ∷ []) flow (applied cat own)
+in_order_more [] flow cat own order fits allowed = absurd order
+in_order_more (commit.Flow text ∷ cs) flow cat own order fits allowed = (order.0, catalog_more (wiring_of flow) (commit.Flow text ∷ cs) own cat order.1 fits allowed)
+in_order_more (commit.Load c b z ∷ cs) flow cat own order fits allowed = absurd order
+in_order_more (commit.Tick m ∷ cs) flow cat own order fits allowed = absurd order
+in_order_more (commit.Run t vs m seen b z ps ∷ cs) flow cat own order fits allowed = absurd order
+in_order_more (commit.Joined c i j b z ∷ cs) flow cat own order fits allowed = absurd order
+in_order_more (commit.Collected kept ∷ cs) flow cat own order fits allowed = absurd order
+
+module _ (store : Held) (commits : List Commit) (own : Commit) (fresh : List Fresh) (a m : List Event) (puts : LeavesAllBut fresh a m) (read : IsRead store commits (current a)) where
+  abbrev pub number : ℕ
+  number = store.journal.generation
+
+  -- the new blocks' files are no journal and no mark
+  pub read_holds : Holds number store.journal.length (map commit_bytes commits) (current m)
+  read_holds = record {
+    log = subst (LogTo store.journal.length (map commit_bytes commits)) (sym (puts.reads (4 * number) (λ f one e. omega (arith, e)))) read.log;
+    newest = λ y lt. puts.reads (4 * y + 1) (λ f one e. omega (arith, e)) ∙ read.marked.1 y lt;
+  }
+
+  pub reads_on : (b : List Event) (new : Held) → SameBut (4 * number) (current m) (current b) → new.flow ≡ store.flow → new.catalog ≡ applied store.catalog own → new.journal.generation ≡ number →
+      Holds number new.journal.length (map commit_bytes commits ++ commit_bytes own ∷ []) (current b) → Fits own → allows store.catalog own ≡ true → IsRead new (commits ++ own ∷ []) (current b)
+  reads_on b new same flow cat generation holds fits allowed =
+      let mark = same (4 * number + 1) (λ e. omega (arith, e)) ∙ puts.reads (4 * number + 1) (λ f one e. omega (arith, e)) in
+      record {
+        marked = subst (λ x. IsSome (current b (4 * x + 1)) × ((y : ℕ) → x < y → current b (4 * y + 1) ≡ None)) (sym generation) (subst IsSome (sym mark) read.marked.0, holds.newest);
+        log = subst (λ x. LogTo new.journal.length (map commit_bytes (commits ++ own ∷ [])) (current b (4 * x))) (sym generation) (subst (λ (ps : List (List ℕ)). LogTo new.journal.length ps (current b (4 * number))) (bytes_more commits own) holds.log);
+        in_order = subst (λ (w : Workflow). AreInOrder (commits ++ own ∷ []) w new.catalog) (sym flow) (subst (λ (k : Entered). AreInOrder (commits ++ own ∷ []) store.flow k) (sym cat) (in_order_more commits store.flow store.catalog own read.in_order fits allowed));
+      }

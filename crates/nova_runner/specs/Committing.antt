@@ -3,6 +3,8 @@ use Rattle.std.specs.Prelude.{◌≡◌, ◌≢◌, ◌⊎◌, ℕ, ◌<◌, ◌
 use Rattle.std.specs.List.{AllByRecursion}
 use Rattle.nova_outside.specs.Disk.{Only, SameOutcomes}
 use Rattle.nova_outside.specs.History.{Event, Outcome, current, replies}
+use Rattle.nova_delta.specs.Merge.{DeltaValue}
+use Rattle.nova_row_codec.specs.Spelling.{spelling_of}
 use Rattle.nova_channel.specs.Reading.{block_file}
 use Rattle.nova_journal.specs.Log.{frame}
 use Rattle.nova_path.specs.Lists.{IsOneOf}
@@ -14,9 +16,10 @@ use Rattle.nova_commit.specs.declared.commit.Commit.{Commit}
 use Rattle.nova_machine.specs.State.{State, ended, kept_at}
 use Rattle.nova_machine.specs.Needed.{hops}
 use Rattle.nova_machine.specs.Reachable.{IsReachable}
-use Rattle.nova_runner.specs.Acts.{LeavesOthers, brought}
+use Rattle.nova_runner.specs.Acts.{LeavesOthers, brought, load_block, load_commit}
 use Rattle.nova_runner.specs.Files.{Piece, IsNamed, IsSettled, bytes_of}
 use Rattle.nova_runner.specs.Held.{Held}
+use Rattle.nova_runner.specs.Opening.{IsRead}
 use Rattle.nova_runner.specs.Readable.{IsReadable}
 use Rattle.nova_runner.specs.Stands.{drawn, sketch}
 use Rattle.nova_runner.specs.Steps.{IsLeft, LosesNone, StoreStands}
@@ -68,6 +71,14 @@ pub record IsReady (store : Held) (own : Commit) (ready : Ready) : Type 0 where
   pub room : store.journal.length + length ready.framed.items ≤ 2 ^ 62
   pub readable : IsReadable (applied store.catalog own)
 
+-- What was made ready of a load: its block, whose number is the next one, and its commit.
+pub record IsLoadReady (store : Held) (c : ℕ) (delta : DeltaValue) (fresh : Fresh) (made : Ready) : Type 0 where
+  pub ready : IsReady store (load_commit store.catalog c delta) made
+  pub fits : Fits (load_commit store.catalog c delta)
+  pub spare : AreSpare store.catalog (load_commit store.catalog c delta) (fresh ∷ [])
+  pub number : fresh.block ≡ store.catalog.next
+  pub bytes : fresh.bytes.items ≡ spelling_of (load_block store.catalog c delta)
+
 -- the commit was added, from each state that the store stood for and that it leads on from
 pub record Added (store new : Held) (commits : List Commit) (own : Commit) (t : State) (a b : List Event) : Type 0 where
   pub stands : StoreStands new (commits ++ own ∷ []) b t
@@ -86,3 +97,7 @@ Adds is_honest store new own fresh a b =
 abbrev pub Breaks : Bool → Held → Commit → List Fresh → List Event → List Event → Type 0
 Breaks is_honest store own fresh a b =
     IsTrue is_honest → (commits : List Commit) (s t : State) → StoreStands store commits a s → Leads store.catalog s t own fresh → IsLeft store.journal.generation commits store.catalog (Some own) (current a) (current b) s t
+
+-- A store that was what its journal said is so still, with the commit behind the others, whatever else the files have.
+abbrev pub ReadsOn : Bool → Held → Held → Commit → List Event → List Event → Type 0
+ReadsOn is_honest store new own a b = IsTrue is_honest → (commits : List Commit) → IsRead store commits (current a) → IsRead new (commits ++ own ∷ []) (current b)

@@ -1,5 +1,5 @@
 -- What holds of files and stores, whatever commands there are.
-use Rattle.std.specs.Prelude.{◌≡◌, ◌⊎◌, ℕ, ◌++◌, ◌∷◌, [], List, map, true}
+use Rattle.std.specs.Prelude.{◌≡◌, ◌⊎◌, ℕ, ◌<◌, ◌^◌, ◌++◌, ◌∷◌, [], List, map, true, IfSome}
 use Rattle.nova_outside.specs.Disk.{Files, IsImage}
 use Rattle.nova_outside.specs.History.{Event, Outcome, current}
 use Rattle.nova_journal.specs.Log.{IsLog}
@@ -8,9 +8,14 @@ use Rattle.nova_delta.specs.Merge.{DeltaValue}
 use Rattle.nova_commit.specs.Commits.{Fits, commit_bytes}
 use Rattle.nova_meta.specs.Catalog.{Entered, allows, applied}
 use Rattle.nova_commit.specs.declared.commit.Commit.{Commit}
-use Rattle.nova_machine.specs.Workflow.{schema_in}
+use Rattle.nova_commit.specs.declared.commit.Commit.TheVariants as commit
+use Rattle.nova_block.specs.Files.{HoldsBlock}
+use Rattle.nova_row_codec.specs.Written.{IsBytes}
+use Rattle.nova_channel.specs.Reading.{block_file}
+use Rattle.nova_meta.specs.Named.{Channel}
+use Rattle.nova_machine.specs.Workflow.{Workflow, schema_in}
 use Rattle.nova_machine.specs.State.{State, ended}
-use Rattle.nova_machine.specs.Steps.{Load, Step, after, load_delta}
+use Rattle.nova_machine.specs.Steps.{Load, Step, Tick, after, load_delta}
 use Rattle.nova_machine.specs.Reachable.{IsMade, IsReachable}
 use Rattle.nova_row_codec.specs.Spelling.{spelling_of}
 use Rattle.nova_runner.specs.Acts.{IsStepDamage, load_block, load_commit}
@@ -45,6 +50,11 @@ abbrev pub StoredIsNotLost : Type 0
 StoredIsNotLost = (x : ℕ) (commits : List Commit) (cat : Entered) (files : Files) (s : State) (p : Piece) →
     IsReachable s → StandsBut x commits cat files (ended s) → IsNamed cat p → IsStored files (ended s) p → IsLost s.flow files p → ⊥
 
+-- and where its file is no block of its size and schema it is lost
+abbrev pub IsBlockOrLost : Type 0
+IsBlockOrLost = (flow : Workflow) (files : Files) (c from to block size : ℕ) → IfSome (files (block_file block)) IsBytes →
+    ((d : DeltaValue) × HoldsBlock (schema_in flow c) size (files (block_file block)) d) ⊎ IsLost flow files (record { content = Channel c from to; block = block; size = size })
+
 -- so files that stood for a state go on to stand for one where no block is lost
 abbrev pub NoLossIsKept : Type 0
 NoLossIsKept = (x y : ℕ) (commits later : List Commit) (was cat : Entered) (old new : Files) (s t : State) →
@@ -64,3 +74,9 @@ LoadsLead = (x : ℕ) (commits : List Commit) (cat : Entered) (files : Files) (s
     → fresh.block ≡ cat.next → fresh.bytes.items ≡ spelling_of (load_block cat c delta)
     → Fits (load_commit cat c delta) → allows cat (load_commit cat c delta) ≡ true
     → Leads cat s (after s (Load c entries)) (load_commit cat c delta) (fresh ∷ [])
+
+-- the commit of a tick leads to the state behind it, and brings no blocks
+abbrev pub TicksLead : Type 0
+TicksLead = (x : ℕ) (commits : List Commit) (cat : Entered) (files : Files) (s : State) (m : ℕ) →
+    IsReachable s → ended s ≡ s → StandsBut x commits cat files (ended s) → IsMade s (Tick m) → m < 2 ^ 64 → allows cat (commit.Tick m) ≡ true
+    → Leads cat s (after s (Tick m)) (commit.Tick m) []

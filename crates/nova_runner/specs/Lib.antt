@@ -1,4 +1,5 @@
 pub mod Held
+pub mod Texts
 pub mod Workflow
 pub mod Around
 pub mod Files

@@ -1,5 +1,5 @@
 -- What a load's commit is of its state.
-use Rattle.std.specs.Prelude.{◌≡◌, ℕ, ◌+◌, ◌<◌, true, List, length, Some}
+use Rattle.std.specs.Prelude.{◌≡◌, ℕ, ◌+◌, ◌<◌, true, List, length}
 use Rattle.nova_value.specs.declared.schema.Entry.{Entry}
 use Rattle.nova_delta.specs.Merge.{DeltaValue}
 use Rattle.nova_row_codec.specs.Spelling.{spelling_of}
@@ -13,12 +13,13 @@ use Rattle.nova_machine.specs.Steps.{Load, after, load_delta}
 use Rattle.nova_runner.specs.Acts.{load_block}
 use Rattle.nova_runner.specs.Files.{bytes_of}
 use Rattle.nova_runner.specs.Stands.{drawn, sketch}
-use Rattle.nova_runner.specs.Workflow.{flow_of, wiring_of}
+use Rattle.nova_runner.specs.Texts.{HasFlow}
+use Rattle.nova_runner.specs.Workflow.{wiring_of}
 
 -- the catalog behind the commit draws the state behind the load
 abbrev pub LoadsDraw : Type 0
-LoadsDraw = (cat : Entered) (s : State) (c b z : ℕ) (entries : List Entry) → flow_of s.flow.text ≡ Some s.flow → cat.wiring ≡ wiring_of s.flow →
-    IsShelved (shelf_at cat c) → drawn cat ≡ sketch s → drawn (applied cat (commit.Load c b z)) ≡ sketch (after s (Load c entries))
+LoadsDraw = (cat : Entered) (s : State) (c b z : ℕ) (entries : List Entry) → HasFlow s.flow.text s.flow → cat.wiring ≡ wiring_of s.flow →
+    is_input s.flow c ≡ true → IsShelved (shelf_at cat c) → drawn cat ≡ sketch s → drawn (applied cat (commit.Load c b z)) ≡ sketch (after s (Load c entries))
 
 -- and the block that it brings is that of the new version
 abbrev pub LoadsBring : Type 0

@@ -26,7 +26,8 @@ use Rattle.nova_runner.specs.Files.{journal_file}
 use Rattle.nova_runner.specs.Held.{Held}
 use Rattle.nova_runner.specs.Stands.{FilesStandBut, StandsBut}
 use Rattle.nova_runner.specs.Steps.{StoreStands}
-use Rattle.nova_runner.specs.Workflow.{flow_of, wiring_of}
+use Rattle.nova_runner.specs.Texts.{HasFlow}
+use Rattle.nova_runner.specs.Workflow.{wiring_of}
 use Rattle.nova_runner.specs.declared.opening.OpenFault.{OpenFault}
 use Rattle.nova_runner.specs.declared.opening.OpenFault.TheVariants as open_fault
 
@@ -34,7 +35,7 @@ use Rattle.nova_runner.specs.declared.opening.OpenFault.TheVariants as open_faul
 
 -- commits in order: the workflow's, and what its catalog allows
 abbrev pub AreInOrder : List Commit → Workflow → Entered → Type 0
-AreInOrder (commit.Flow text ∷ cs) flow cat = (flow_of text ≡ Some flow) × IsCatalogOf (wiring_of flow) (commit.Flow text ∷ cs) cat
+AreInOrder (commit.Flow text ∷ cs) flow cat = HasFlow text flow × IsCatalogOf (wiring_of flow) (commit.Flow text ∷ cs) cat
 AreInOrder _ flow cat = ⊥
 
 -- the store in memory is what the journal of the greatest mark says
@@ -52,7 +53,7 @@ pub record IsOpenedBy (store : Held) (commits : List Commit) (x : ℕ) (by : Lis
 
 -- behind commits in order no commit with these bytes may come
 abbrev pub IsRefused : List Commit → List ℕ → Type 0
-IsRefused [] bad = (text : List ℕ) (flow : Workflow) → bad ≡ commit_bytes (commit.Flow text) → flow_of text ≡ Some flow → ⊥
+IsRefused [] bad = (text : List ℕ) (flow : Workflow) → bad ≡ commit_bytes (commit.Flow text) → HasFlow text flow → ⊥
 IsRefused (c ∷ cs) bad = (flow : Workflow) (cat : Entered) (next : Commit) → AreInOrder (c ∷ cs) flow cat → Fits next → bad ≡ commit_bytes next → allows cat next ≡ true → ⊥
 
 -- there are none, or they are in order
@@ -119,19 +120,28 @@ OpenCause before now open_fault.NoMemory = Unit {0}
 
 -- ---- inside an opening
 
+-- the workflow that a text says, or none where it says none
+abbrev pub IsSaid : List ℕ → Option Workflow → Type 0
+IsSaid text None = (flow : Workflow) → HasFlow text flow → ⊥
+IsSaid text (Some flow) = HasFlow text flow
+
+abbrev pub IsNone : Option Workflow → Type 0
+IsNone None = Unit {0}
+IsNone (Some flow) = ⊥
+
 -- the workflow of a commit, or none where it is another's
-abbrev pub flow_in : Commit → Option Workflow
-flow_in (commit.Flow text) = flow_of text
-flow_in (commit.Load c block size) = None
-flow_in (commit.Tick moment) = None
-flow_in (commit.Run t versions moment seen block size parts) = None
-flow_in (commit.Joined c from to block size) = None
-flow_in (commit.Collected blocks) = None
+abbrev pub IsFlowIn : Commit → Option Workflow → Type 0
+IsFlowIn (commit.Flow text) found = IsSaid text found
+IsFlowIn (commit.Load c block size) found = IsNone found
+IsFlowIn (commit.Tick moment) found = IsNone found
+IsFlowIn (commit.Run t versions moment seen block size parts) found = IsNone found
+IsFlowIn (commit.Joined c from to block size) found = IsNone found
+IsFlowIn (commit.Collected blocks) found = IsNone found
 
 -- a first payload: a workflow's, or none
 abbrev pub IsFirstFlow : List ℕ → Option Workflow → Type 0
 IsFirstFlow payload None = IsRefused [] payload
-IsFirstFlow payload (Some flow) = (payload ≡ commit_bytes (commit.Flow flow.text)) × (flow_of flow.text ≡ Some flow)
+IsFirstFlow payload (Some flow) = (payload ≡ commit_bytes (commit.Flow flow.text)) × HasFlow flow.text flow
 
 -- a payload's commit was applied; where the answer is false it isn't a commit that may come, and nothing changed
 abbrev pub TakesCommit : Entered → Entered → List ℕ → Result Bool AllocError → Type 0
@@ -165,7 +175,7 @@ pub record HasCommits (payloads : List (List ℕ)) (flow : Workflow) (cat : Ente
   pub commits : List Commit
   pub are : payloads ≡ map commit_bytes commits
   pub in_order : AreInOrder commits flow cat
-  pub read : flow_of flow.text ≡ Some flow
+  pub read : HasFlow flow.text flow
   pub wired : cat.wiring ≡ wiring_of flow
   pub begun : cat.begun ≡ true
   pub readable : IsReadable cat

@@ -1,8 +1,9 @@
 -- What each catalog of commits in order gives its readers.
-use Rattle.std.specs.Prelude.{◌≡◌, ℕ, ◌<◌, ◌≤◌, ◌^◌, true, length, Some}
+use Rattle.std.specs.Prelude.{◌≡◌, ℕ, ◌<◌, ◌≤◌, ◌^◌, true, length}
 use Rattle.nova_runner.specs.Files.{Piece, IsNamed}
 use Rattle.nova_runner.specs.Held.{Held}
-use Rattle.nova_runner.specs.Workflow.{flow_of, wiring_of}
+use Rattle.nova_runner.specs.Texts.{HasFlow}
+use Rattle.nova_runner.specs.Workflow.{wiring_of}
 use Rattle.nova_path.specs.Shelf.{HasPath}
 use Rattle.nova_path.specs.Intervals.{spans}
 use Rattle.nova_channel.specs.Reading.{AreNumbered}
@@ -20,7 +21,7 @@ pub record IsReadable (cat : Entered) : Type 0 where
 
 -- A store's catalog is that of its workflow, and readable.
 pub record IsKept (held : Held) : Type 0 where
-  pub read : flow_of held.flow.text ≡ Some held.flow
+  pub read : HasFlow held.flow.text held.flow
   pub wired : held.catalog.wiring ≡ wiring_of held.flow
   pub begun : held.catalog.begun ≡ true
   pub readable : IsReadable held.catalog

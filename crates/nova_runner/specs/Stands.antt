@@ -18,7 +18,8 @@ use Rattle.nova_meta.specs.Named.{Content, Channel, State as StatePart, IsCatalo
 use Rattle.nova_machine.specs.Workflow.{Workflow, schema_in}
 use Rattle.nova_machine.specs.State.{State, Kept, Done, Capture, ended, kept_at}
 use Rattle.nova_machine.specs.Needed.{hops}
-use Rattle.nova_runner.specs.Workflow.{flow_of, wiring_of}
+use Rattle.nova_runner.specs.Texts.{HasFlow}
+use Rattle.nova_runner.specs.Workflow.{wiring_of}
 use Rattle.nova_runner.specs.Files.{Piece, IsNamed, IsStored, journal_file}
 
 -- of a channel: its version, and the spans that have a block
@@ -65,7 +66,7 @@ drawn cat = record { channels = map drawn_shelved cat.channels; tasks = map told
 
 -- The commits are those of a store of the state's workflow, in order, and their catalog draws the state.
 pub record Agrees (commits : List Commit) (cat : Entered) (s : State) : Type 0 where
-  pub read : flow_of s.flow.text ≡ Some s.flow
+  pub read : HasFlow s.flow.text s.flow
   pub later : List Commit
   pub begins : commits ≡ commit.Flow s.flow.text ∷ later
   pub catalog : IsCatalogOf (wiring_of s.flow) commits cat

@@ -1,10 +1,12 @@
 -- What a step leaves of a store and of its host, whether it was done or stopped.
-use Rattle.std.specs.Prelude.{◌≡◌, ◌⊎◌, ℕ, Bool, List, [], ◌∷◌, ◌++◌, map, Option, Some, IsTrue}
+use Rattle.std.specs.Prelude.{◌≡◌, ◌⊎◌, ℕ, ◌+◌, ◌≤◌, ◌^◌, Bool, List, [], ◌∷◌, ◌++◌, length, map, Option, Some, IsTrue}
 use Rattle.nova_outside.specs.Causes.{Rose}
 use Rattle.nova_outside.specs.Disk.{Files, Only}
 use Rattle.nova_outside.specs.History.{Event, Begins, Outcome, current, replies}
-use Rattle.nova_journal.specs.Log.{LogTo}
+use Rattle.nova_journal.specs.Log.{LogTo, records}
 use Rattle.nova_journal.specs.Marks.{IsIn}
+use Rattle.nova_journal.specs.declared.fault.LogFault.{LogFault}
+use Rattle.nova_journal.specs.declared.fault.LogFault.TheVariants as log
 use Rattle.nova_value.specs.declared.schema.Entry.{Entry}
 use Rattle.nova_delta.specs.Merge.{DeltaValue}
 use Rattle.nova_commit.specs.Commits.{commit_bytes}
@@ -12,7 +14,7 @@ use Rattle.nova_meta.specs.Catalog.{Entered, applied}
 use Rattle.nova_commit.specs.declared.commit.Commit.{Commit}
 use Rattle.nova_machine.specs.Workflow.{Workflow, schema_in}
 use Rattle.nova_machine.specs.State.{State, ended}
-use Rattle.nova_machine.specs.Steps.{Step, Load, Show, after, load_delta}
+use Rattle.nova_machine.specs.Steps.{Step, Load, Show, Tick, after, load_delta}
 use Rattle.nova_machine.specs.Reachable.{IsMade, IsReachable}
 use Rattle.nova_machine.specs.Replies.{reply_to}
 use Rattle.nova_runner.specs.Acts.{IsFull, IsStepDamage, LeavesOthers, behind, catalog_behind, own_commit}
@@ -21,8 +23,6 @@ use Rattle.nova_runner.specs.Stands.{StandsBut, IsLost}
 use Rattle.nova_runner.specs.Held.{Held}
 use Rattle.nova_runner.specs.declared.stop.Stopped.{Stopped as StoppedCall}
 use Rattle.nova_runner.specs.declared.stop.Stopped.TheVariants as stopped
-use Rattle.nova_runner.specs.declared.ready.Unready.{Unready}
-use Rattle.nova_runner.specs.declared.ready.Unready.TheVariants as unready
 
 -- A store in memory stands for a state, in this host, by these commits, but for lost blocks. Nothing is pending on its journal, and nothing is in flight: a store holds no executions yet.
 pub record StoreStands (store : Held) (commits : List Commit) (h : List Event) (s : State) : Type 0 where
@@ -46,6 +46,14 @@ pub record IsKeptBy (x : ℕ) (commits : List Commit) (was cat : Entered) (old n
   pub stands : StandsBut x commits cat new (ended s)
   pub no_loss : LosesNone s.flow was cat old new
 
+-- a journal of these commits has at most 2^62 bytes
+abbrev pub IsShortLog : List Commit → Type 0
+IsShortLog commits = length (records (map commit_bytes commits)) + 1 ≤ 2 ^ 62
+
+-- where a step adds a commit, the journal that has it too is so short
+abbrev pub HasKeptRoom : List Commit → Option Commit → Type 0
+HasKeptRoom commits own = (c : Commit) → own ≡ Some c → IsShortLog (commits ++ c ∷ [])
+
 -- ---- done
 
 -- A step was done: the store stands for the state behind it, by the commits from before and its own; no other file changed, and no block was lost; of what was settled nothing is pending; these bytes were replied.
@@ -56,6 +64,9 @@ pub record Done (store new : Held) (commits : List Commit) (s : State) (x : Step
   pub no_loss : LosesNone s.flow store.catalog new.catalog (current a) (current b)
   pub settled : IsSettled store.journal.generation store.catalog a → IsSettled new.journal.generation new.catalog b
   pub replied : replies b ≡ replies a ++ given
+  -- each block that it read was one
+  pub undamaged : (file at : ℕ) → IsStepDamage s.flow store.catalog (current a) x file at → ⊥
+  pub room : HasKeptRoom commits (own_commit store.catalog s x)
 
 -- ---- stopped
 
@@ -77,6 +88,7 @@ pub record BrokeOff (store : Held) (commits : List Commit) (s : State) (x : Step
   pub left : IsLeft store.journal.generation commits store.catalog (own_commit store.catalog s x) (current a) (current b) s (after s x)
   pub others : LeavesOthers store.journal.generation (own_commit store.catalog s x) (current a) (current b)
   pub silent : replies b ≡ replies a
+  pub room : HasKeptRoom commits (own_commit store.catalog s x)
 
 -- a reply failed: the step's commit is kept, and a front of its line was given
 pub record HeldBack (store : Held) (commits : List Commit) (s : State) (x : Step) (a b : List Event) : Type 0 where
@@ -85,6 +97,8 @@ pub record HeldBack (store : Held) (commits : List Commit) (s : State) (x : Step
   pub given : List ℕ
   pub front : Begins given (reply_to s x)
   pub replied : replies b ≡ replies a ++ given
+  pub undamaged : (file at : ℕ) → IsStepDamage s.flow store.catalog (current a) x file at → ⊥
+  pub room : HasKeptRoom commits (own_commit store.catalog s x)
 
 -- the step's commit has no room, in a journal of this length
 pub record NoRoom (store : Held) (s : State) (x : Step) (end : ℕ) : Type 0 where
@@ -115,6 +129,9 @@ Stops why is_honest asks store a b =
 abbrev pub AsksLoad : ℕ → DeltaValue → State → Step → Type 0
 AsksLoad c delta s x = (entries : List Entry) × (x ≡ Load c entries) × (delta ≡ record { schema = schema_in s.flow c; entries = load_delta (schema_in s.flow c) entries }) × IsMade s x
 
+abbrev pub AsksTick : ℕ → State → Step → Type 0
+AsksTick m s x = (x ≡ Tick m) × IsMade s x
+
 abbrev pub AsksShow : ℕ → State → Step → Type 0
 AsksShow c s x = (x ≡ Show c) × IsMade s x
 
@@ -141,12 +158,23 @@ abbrev pub IsStopFull : StoppedCall → Type 0
 IsStopFull (stopped.Full end) = Unit {0}
 IsStopFull _ = ⊥
 
+-- It stopped before any call of the host: over a bound, or for want of memory.
+abbrev pub IsStopEarly : StoppedCall → Type 0
+IsStopEarly (stopped.Full end) = Unit {0}
+IsStopEarly (stopped.NoMemory store) = Unit {0}
+IsStopEarly _ = ⊥
+
 -- damage was told
 abbrev pub IsStopDamage : StoppedCall → Type 0
 IsStopDamage (stopped.Damaged file at) = Unit {0}
 IsStopDamage _ = ⊥
 
--- what is told of a commit that isn't ready
-abbrev pub unready_stop : Held → Unready → StoppedCall
-unready_stop store unready.Full = stopped.Full store.journal.length
-unready_stop store unready.Memory = stopped.NoMemory store
+-- what is told of a record that wasn't appended
+abbrev pub append_stop : LogFault → StoppedCall
+append_stop (log.Full end) = stopped.Full end
+append_stop _ = stopped.Disk
+
+-- want of memory is never told
+abbrev pub TakesNoMemory : StoppedCall → Type 0
+TakesNoMemory (stopped.NoMemory store) = ⊥
+TakesNoMemory _ = Unit {0}

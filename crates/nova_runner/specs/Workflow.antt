@@ -1,8 +1,6 @@
--- The workflow of a text, and what a catalog knows of it.
-use Rattle.std.specs.Prelude.{◌≡◌, List, [], ◌∷◌, ◌++◌, ℕ, ◌<◌, ◌≤◌, Bool, true, false, length, map, Option, Some, None, codes, if◌then◌else◌}
-use Rattle.std.specs.Str.{bytes_eq}
-use Rattle.nova_value.specs.declared.value.Kind.TheVariants.{Long, Text}
-use Rattle.nova_value.specs.Rows.{Shape, IsShape}
+-- What a catalog knows of a workflow, and what each workflow that a text says keeps.
+use Rattle.std.specs.Prelude.{◌≡◌, List, [], ◌∷◌, ℕ, ◌<◌, ◌≤◌, Bool, true, false, length, map, Option, Some, None}
+use Rattle.nova_value.specs.Rows.{IsShape}
 use Rattle.nova_workflow.specs.declared.flow.Channel.{Channel}
 use Rattle.nova_workflow.specs.declared.flow.Input.{Input}
 use Rattle.nova_workflow.specs.declared.flow.Task.{Task}
@@ -15,31 +13,13 @@ use Rattle.nova_meta.specs.declared.wiring.Wire.{Wire}
 use Rattle.nova_meta.specs.declared.wiring.Wiring.{Wiring}
 use Rattle.nova_meta.specs.Wired as catalog
 use Rattle.nova_meta.specs.Wired.{IsWiring}
-use Rattle.nova_machine.specs.Workflow.{Workflow, TaskPlan, is_based, is_new, schema_in}
+use Rattle.nova_pig_algebra.specs.Plan.{IsPlan}
+use Rattle.nova_pig_pattern.specs.OutputKey.{HasOutputKey}
+use Rattle.nova_machine.specs.Workflow.{Workflow, TaskPlan, is_based, is_new, output_in, plan_in, schema_in, task_in}
 use Rattle.nova_machine.specs.Sound.{IsWired}
 use Rattle.nova_machine.specs.Keeping.{RunsKeep}
-
--- the one workflow that is built in
-abbrev pub raw_schema : Shape
-raw_schema = record {
-  columns = record { name = codes "id"; kind = Long } ∷ (record { name = codes "url"; kind = Text } ∷ (record { name = codes "ms"; kind = Long } ∷ []));
-  key = 0 ∷ [];
-}
-
-abbrev pub raw_channel : Channel
-raw_channel = record { name = codes "raw"; schema = raw_schema; writer = None; based = false }
-
-abbrev pub raw_text : List ℕ
-raw_text =
-    codes "[[channel]]\n" ++ codes "name = \"raw\"\n"
-    ++ codes "columns = [\"id long\", \"url chararray\", \"ms long\"]\n" ++ codes "key = [\"id\"]\n"
-
-abbrev pub raw_flow : List ℕ → Workflow
-raw_flow text = record { text = text; channels = raw_channel ∷ []; tasks = []; plans = [] }
-
--- the workflow that a text says, or none where it is refused: of the built-in text alone until workflow texts are admitted
-unfoldable pub flow_of : List ℕ → Option Workflow
-flow_of text = if bytes_eq text raw_text then Some (raw_flow text) else None
+use Rattle.nova_machine.specs.RunLaws.{IsOwned}
+use Rattle.nova_runner.specs.Texts.{HasFlow}
 
 -- ---- what a catalog knows
 
@@ -72,6 +52,15 @@ wiring_of w = record { writers = map (λ (c : Channel). c.writer) w.channels; ta
 
 -- ---- what is kept
 
+-- A task's plan is one over the schemas of its channels, with the key of its output. Only tasks that make the whole of their output run yet.
+pub record IsPlanned (w : Workflow) (t : ℕ) : Type 0 where
+  pub plan : IsPlan (plan_in w t).plan
+  pub key : HasOutputKey (plan_in w t).plan
+  pub inputs : (plan_in w t).plan.inputs ≡ map (λ (i : Input). schema_in w i.channel) (task_in w t).inputs
+  pub output : (plan_in w t).plan.output ≡ schema_in w (output_in w t)
+  pub pattern : (plan_in w t).pattern ≡ NonIncremental
+  pub anew : is_based w (output_in w t) ≡ true
+
 -- What each workflow that a text says keeps. This is all that the store rests on: whichever texts are admitted, they give it.
 pub record IsAdmitted (text : List ℕ) (w : Workflow) : Type 0 where
   pub kept : w.text ≡ text
@@ -81,7 +70,9 @@ pub record IsAdmitted (text : List ℕ) (w : Workflow) : Type 0 where
   pub based : (c : ℕ) → catalog.is_based (wiring_of w) c ≡ is_based w c
   pub wiring : IsWiring (wiring_of w)
   pub news : IsWired w
+  pub owned : IsOwned w
+  pub plans : (t : ℕ) → t < length w.tasks → IsPlanned w t
   pub runs : RunsKeep w
 
 abbrev pub FlowsAreAdmitted : Type 0
-FlowsAreAdmitted = (text : List ℕ) (w : Workflow) → flow_of text ≡ Some w → IsAdmitted text w
+FlowsAreAdmitted = (text : List ℕ) (w : Workflow) → HasFlow text w → IsAdmitted text w

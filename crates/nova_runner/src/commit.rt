@@ -5,8 +5,9 @@ ghost use Rattle.nova_outside.specs.Causes.{HasCause};
 ghost use Rattle.nova_outside.specs.History.{replies};
 ghost use Rattle.nova_path.specs.Lists.{IsOneOf};
 ghost use Rattle.nova_meta.specs.Catalog.{applied};
+ghost use Rattle.nova_commit.specs.Commits.{Fits};
 ghost use Rattle.nova_commit.specs.declared.commit.Commit.{Commit};
-ghost use Rattle.nova_runner.specs.Committing.{Adds, ArePut, AreSpare, Breaks, IsReady, LeavesAllBut, Touched};
+ghost use Rattle.nova_runner.specs.Committing.{Adds, ArePut, AreSpare, Breaks, IsReady, LeavesAllBut, ReadsOn, Touched};
 ghost use Rattle.nova_runner.specs.Steps.{InHost};
 ghost use Rattle.nova_runner.specs.declared.ready.Fresh.{Fresh};
 
@@ -45,6 +46,7 @@ impl Store {
         ensures adds { MatchResult result
             (λ new. (own : Commit) → IsReady self own ready → AreSpare self.catalog own fresh.now → Adds H.is_honest self new own fresh.now (H.history host.old) (H.history host.new))
             (λ _. (own : Commit) → IsReady self own ready → AreSpare self.catalog own fresh.now → Breaks H.is_honest self own fresh.now (H.history host.old) (H.history host.new)) }
+        ensures read { IfOk result (λ new. (own : Commit) → Fits own → IsReady self own ready → ReadsOn H.is_honest self new own (H.history host.old) (H.history host.new)) }
         ensures touched { IsTrue H.is_honest → (own : Commit) → IsReady self own ready → AreSpare self.catalog own fresh.now → Touched self own (H.history host.old) (H.history host.new) }
         ensures catalog { IfOk result (λ new. (own : Commit) → IsReady self own ready → new.catalog ≡ applied self.catalog own) }
         ensures flow { IfOk result (λ new. new.flow ≡ self.flow) }

@@ -33,6 +33,20 @@ impl Context for Store {
 }
 
 impl Store {
+    /// How many channels its workflow has.
+    pub fn channel_count(&self) -> u32
+        ensures { result ≡ length self.now.flow.channels }
+    {
+        self.flow.channel_count()
+    }
+
+    /// How many tasks its workflow has.
+    pub fn task_count(&self) -> u32
+        ensures { result ≡ length self.now.flow.tasks }
+    {
+        self.flow.task_count()
+    }
+
     /// The name of a channel.
     pub fn channel_name(&self, channel: u32) -> &Name
         requires { channel < length self.now.flow.channels }

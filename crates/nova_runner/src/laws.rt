@@ -1,5 +1,5 @@
 //! What holds of files and stores, whatever commands there are.
-ghost use Rattle.nova_runner.specs.Laws.{CommitsLead, DecidingFilesDecide, LoadsLead, NoLossIsKept, NoStepDamage, SettledImagesStand, StoredIsNotLost};
+ghost use Rattle.nova_runner.specs.Laws.{CommitsLead, DecidingFilesDecide, IsBlockOrLost, LoadsLead, NoLossIsKept, NoStepDamage, SettledImagesStand, StoredIsNotLost, TicksLead};
 ghost use Rattle.nova_runner.specs.LoadLaws.{LoadsBring, LoadsDraw};
 
 /// Only the files that decide count for what files stand for, so each image of a host on whose deciding
@@ -21,14 +21,20 @@ pub fn loads_commit()
     ensures lead { LoadsLead }
 {}
 
+/// A tick's catalog draws the state behind it, and no block comes with it.
+pub fn ticks_commit()
+    ensures { TicksLead }
+{}
+
 /// Where files stand for a state that commands reach, no step tells damage.
 pub fn no_step_tells_damage()
     ensures { NoStepDamage }
 {}
 
 /// A block is stored or lost and not both, so files over which no block is lost go on to stand for a
-/// state.
+/// state; and where a block's file is none of its size it is lost.
 pub fn what_stands_stays()
     ensures apart { StoredIsNotLost }
+    ensures lost { IsBlockOrLost }
     ensures kept { NoLossIsKept }
 {}

@@ -7,22 +7,25 @@ ghost use Rattle.nova_journal.specs.Marks.{IsIn, IsUnmarked};
 ghost use Rattle.nova_runner.specs.Making.{HasFirst, HasNoneOrFirst, InitCause, IsBlank, Makes, NotBlank, OnlyMade, Unmakes};
 ghost use Rattle.nova_meta.specs.Catalog.{applied, blank};
 ghost use Rattle.nova_runner.specs.Steps.{InHost};
-ghost use Rattle.nova_runner.specs.Workflow.{flow_of, wiring_of};
+ghost use Rattle.nova_runner.specs.Texts.{HasFlow};
+ghost use Rattle.nova_runner.specs.Workflow.{wiring_of};
 ghost use Rattle.nova_runner.specs.declared.making.InitFault.TheVariants as init;
 
 use crate::store::Store;
-use crate::workflow::{Workflow, copied, read_flow, wiring};
+use crate::text::TextFault;
+use crate::wiring::wiring;
+use crate::workflow::{Workflow, copied, read_flow};
 use nova_journal::{Journal, frame};
 use nova_meta::{Catalog, Commit, encode_commit};
 use nova_outside::{Failed, Host};
 use std::alloc::{AllocError, Global};
 
 /// Why a store wasn't made.
-#[derive(Clone, Copy, Debug, PartialEq, Eq)]
+#[derive(Debug, Drop)]
 pub enum InitFault {
     Disk,
-    /// The workflow's text is refused.
-    Flow,
+    /// The workflow's text is refused, for this.
+    Flow(TextFault),
     NoMemory,
 }
 
@@ -61,8 +64,9 @@ fn first_catalog(alloc: Global, flow: &Workflow, commit: &Commit) -> Result<Cata
 fn blank_store(alloc: Global, text: &[u8]) -> Result<Blank, InitFault>
     ensures { MatchResult result (IsBlank text.now) (NotBlank text.now) }
 {
-    let Some(flow) = read_flow(alloc, text)? else {
-        return Err(InitFault::Flow);
+    let flow = match read_flow(alloc, text)? {
+        Ok(flow) => flow,
+        Err(fault) => return Err(InitFault::Flow(fault)),
     };
     let commit = Commit::Flow {
         text: copied(alloc, text)?,
@@ -109,7 +113,7 @@ impl Store {
         ensures made { MatchResult result
             (Makes H.is_honest text.now (H.history host.old) (H.history host.new))
             (Unmakes H.is_honest text.now (H.history host.old) (H.history host.new)) }
-        ensures flow { IfOk result (λ store. flow_of text.now ≡ Some store.flow) }
+        ensures flow { IfOk result (λ store. HasFlow text.now store.flow) }
         ensures in_host { IfOk result (λ store. InHost H.is_honest store (H.history host.new)) }
         ensures cause { IfErr result (InitCause (H.disk_faults host.old) (H.disk_faults host.new) text.now) }
         ensures later { H.disk_faults host.old ≤ H.disk_faults host.new }

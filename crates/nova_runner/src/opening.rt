@@ -1,19 +1,24 @@
 //! A store that is opened.
 ghost use Rattle.std.specs.Prelude.{◌≡◌, ◌+◌, ◌*◌, ◌≤◌, ◌<◌, ◌^◌, ℕ, List, Option, Some, None, true, IfOk, IfErr, IsTrue, MatchResult, OnOk};
+ghost use Rattle.nova_outside.specs.Disk.{Only};
 ghost use Rattle.nova_outside.specs.History.{LeftNow, Meanwhile, Outcome, current, replies};
 ghost use Rattle.nova_journal.specs.Log.{IsPlaced, file_length, payloads_of};
 ghost use Rattle.nova_journal.specs.Marks.{IsMark};
 ghost use Rattle.nova_meta.specs.Catalog.{Entered, applied, allows, blank};
 ghost use Rattle.nova_commit.specs.Commits.{Fits, commit_bytes};
 ghost use Rattle.nova_commit.specs.declared.commit.Commit.{Commit as Committed};
-ghost use Rattle.nova_runner.specs.Opening.{HasCommits, HasTaken, IsStuckTold, IsFirstFlow, NoBadStore, NoStoreThere, NotReadTold, OneBadStore, OpenCause, Opens, TakesCommit, UnopenedTold, flow_in, unopened_by, unread_in};
+ghost use Rattle.nova_runner.specs.Files.{journal_file, mark_file};
+ghost use Rattle.nova_runner.specs.Opening.{HasCommits, HasTaken, IsFlowIn, IsSaid, IsStuckTold, IsFirstFlow, NoBadStore, NoStoreThere, NotReadTold, OneBadStore, OpenCause, Opens, TakesCommit, UnopenedTold, unopened_by, unread_in};
 ghost use Rattle.nova_meta.specs.Wired.{IsWiring};
 ghost use Rattle.nova_runner.specs.Steps.{InHost};
-ghost use Rattle.nova_runner.specs.Workflow.{flow_of, wiring_of};
+ghost use Rattle.nova_runner.specs.Texts.{HasFlow};
+ghost use Rattle.nova_runner.specs.Workflow.{wiring_of};
 ghost use Rattle.nova_runner.specs.declared.opening.NotRead.TheVariants as not_read;
 
 use crate::store::Store;
-use crate::workflow::{Workflow, read_flow, wiring};
+use crate::text::texts_are_settled;
+use crate::wiring::wiring;
+use crate::workflow::{Workflow, read_flow};
 use nova_journal::{Journal, LogFault, Payload};
 use nova_meta::{Catalog, Commit, MetaFault, Wiring, decode_commit};
 use nova_outside::Host;
@@ -66,12 +71,23 @@ fn unread(file: u64, why: NotRead) -> OpenFault
     }
 }
 
+/// The workflow that a text says, or None where it says none.
+fn flow_said(alloc: Global, text: &[u8]) -> Result<Option<Workflow>, AllocError>
+    ensures { IfOk result (IsSaid text.now) }
+{
+    texts_are_settled();
+    match read_flow(alloc, text)? {
+        Ok(flow) => Ok(Some(flow)),
+        Err(_) => Ok(None),
+    }
+}
+
 /// The workflow of a commit, or None where it is another's.
 fn flow_in(alloc: Global, commit: &Commit) -> Result<Option<Workflow>, AllocError>
-    ensures { IfOk result (λ found. found ≡ flow_in commit.now) }
+    ensures { IfOk result (IsFlowIn commit.now) }
 {
     match commit {
-        Commit::Flow { text } => read_flow(alloc, text.as_slice()),
+        Commit::Flow { text } => flow_said(alloc, text.as_slice()),
         Commit::Load {
             channel: _,
             block: _,
@@ -172,6 +188,9 @@ impl Store {
             (λ store. Opens H.is_honest store (H.history host.old) (H.history host.new))
             (λ why. IsTrue H.is_honest → UnopenedTold why (current (H.history host.old))) }
         ensures in_host { IfOk result (λ store. InHost H.is_honest store (H.history host.new)) }
+        // Nothing is pending on its journal and on its mark.
+        ensures settled { IsTrue H.is_honest → IfOk result (λ store. Only (current (H.history host.old) (journal_file store.journal.generation)) (Outcome (H.history host.new) (journal_file store.journal.generation))) }
+        ensures mark_settled { IsTrue H.is_honest → IfOk result (λ store. Only (current (H.history host.old) (mark_file store.journal.generation)) (Outcome (H.history host.new) (mark_file store.journal.generation))) }
         ensures crash { IsTrue H.is_honest → (n : ℕ) (c : Option (List ℕ)) → Outcome (H.history host.new) n c → Outcome (H.history host.old) n c }
         ensures any_moment { IsTrue H.is_honest → Meanwhile (LeftNow (H.history host.old)) (H.history host.old) (H.history host.new) }
         ensures files { IsTrue H.is_honest → (n : ℕ) → current (H.history host.new) n ≡ current (H.history host.old) n }

@@ -4,7 +4,7 @@ ghost use Rattle.nova_outside.specs.History.{current};
 ghost use Rattle.nova_channel.specs.Reading.{route_size};
 ghost use Rattle.nova_machine.specs.Replies.{reply_to, row_lines};
 ghost use Rattle.nova_meta.specs.Catalog.{shelf_at};
-ghost use Rattle.nova_runner.specs.Reading.{IsNewestDamage, ShowCause, shown_text, unshown_by, why_unshown};
+ghost use Rattle.nova_runner.specs.Reading.{IsNewestDamage, ShowCause, ShownTold, ShowsNewest, UnshownGave, shown_text, unshown_by, why_unshown};
 ghost use Rattle.nova_runner.specs.Steps.{AsksShow, Does, Stops};
 ghost use Rattle.nova_script.specs.Replying.{Pushes, Replies};
 
@@ -74,7 +74,12 @@ impl Store {
         ensures step { MatchResult result
             (λ _. Does H.is_honest (AsksShow channel) reply_to self.now self.now (H.history host.old) (H.history host.new))
             (λ why. Stops (why_unshown why) H.is_honest (AsksShow channel) self.now (H.history host.old) (H.history host.new)) }
-        // Where a block on its path is none nothing is shown.
+        // Whatever the files stand for: the text of the table that its blocks read as is replied, or a front of it where a reply failed, and else nothing.
+        ensures gave { IsTrue H.is_honest → MatchResult result
+            (λ _. ShowsNewest self.now channel (H.history host.old) (H.history host.new))
+            (UnshownGave self.now channel (H.history host.old) (H.history host.new)) }
+        // Damage is told where a block on its path is none.
+        ensures told { IsTrue H.is_honest → IfErr result (ShownTold self.now channel (current (H.history host.old))) }
         ensures whole { IsTrue H.is_honest → (file at : ℕ) → IsNewestDamage self.now channel (current (H.history host.old)) file at → IsErr result }
         ensures files { IsTrue H.is_honest → (n : ℕ) → current (H.history host.new) n ≡ current (H.history host.old) n }
         ensures cause { IfErr result (ShowCause (H.disk_faults host.old) (H.disk_faults host.new) (H.reply_faults host.old) (H.reply_faults host.new)) }

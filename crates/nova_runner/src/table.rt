@@ -1,10 +1,10 @@
 //! The newest table of a channel.
 ghost use Rattle.std.specs.Prelude.{◌≡◌, ◌+◌, ◌<◌, ◌≤◌, ℕ, List, length, IfOk, IfErr, IsErr, IsTrue};
 ghost use Rattle.nova_outside.specs.History.{current};
-ghost use Rattle.nova_channel.specs.Reading.{HasReadTable, ReadCause, ReadTold, route_size};
+ghost use Rattle.nova_channel.specs.Reading.{ReadCause, ReadTold, route_size};
 ghost use Rattle.nova_machine.specs.Workflow.{schema_in};
 ghost use Rattle.nova_meta.specs.Catalog.{shelf_at};
-ghost use Rattle.nova_runner.specs.Reading.{GivesNewest, IsNewestDamage, ReadStops};
+ghost use Rattle.nova_runner.specs.Reading.{GivesNewest, IsNewestDamage, IsNewestRead, ReadStops};
 ghost use Rattle.nova_runner.specs.Steps.{AsksShow};
 
 use crate::store::Store;
@@ -27,6 +27,7 @@ impl Store {
         ensures stops { IfErr result (λ fault. ReadStops fault H.is_honest (AsksShow channel) self.now (H.history host.old) (H.history host.new)) }
         ensures told { IsTrue H.is_honest → IfErr result (ReadTold (schema_in self.now.flow channel) (current (H.history host.old)) (shelf_at self.now.catalog channel).intervals 0 (shelf_at self.now.catalog channel).version) }
         ensures whole { IsTrue H.is_honest → (file at : ℕ) → IsNewestDamage self.now channel (current (H.history host.old)) file at → IsErr result }
+        ensures read { IsTrue H.is_honest → IfOk result (IsNewestRead self.now channel (current (H.history host.old))) }
         ensures schema { IfOk result (λ t. t.schema ≡ schema_in self.now.flow channel) }
         ensures cause { IfErr result (ReadCause (H.disk_faults host.old) (H.disk_faults host.new)) }
         ensures same { IsTrue H.is_honest → H.history host.new ≡ H.history host.old }

@@ -1,15 +1,20 @@
-//! Workflows: the one that is built in, until their texts are admitted.
-ghost use Rattle.std.specs.Prelude.{◌≡◌, ◌<◌, ◌^◌, ◌∷◌, [], length, map, is_some, IfOk, IfSome, Some};
+//! Workflows of texts.
+ghost use Rattle.std.specs.Prelude.{◌≡◌, ◌<◌, ◌^◌, length, map, is_some, IfOk, IfSome};
 ghost use Rattle.nova_script.specs.Session.{place_from};
 ghost use Rattle.nova_workflow.specs.declared.flow.Channel.{Channel as Seen};
 ghost use Rattle.nova_workflow.specs.declared.flow.Task.{Task as SeenTask};
+ghost use Rattle.nova_pig_algebra.specs.Plan.{IsPlan};
+ghost use Rattle.nova_admit.specs.Flows.{HavePatterns};
+ghost use Rattle.nova_admit.specs.TaskPlans.{plan_of};
 ghost use Rattle.nova_machine.specs.Workflow.{channel_in, schema_in};
-ghost use Rattle.nova_meta.specs.Wired.{IsWiring};
-ghost use Rattle.nova_runner.specs.Workflow.{FlowsAreAdmitted, IsAdmitted, flow_of, raw_channel, raw_flow, raw_schema, raw_text, wiring_of};
+ghost use Rattle.nova_runner.specs.Texts.{Admits, ArePlans, HasFlow, Says, workflow_of};
+ghost use Rattle.nova_runner.specs.Workflow.{FlowsAreAdmitted};
 
-use nova_meta::Wiring;
-use nova_value::{Column, Kind, Name, Schema};
-use nova_workflow::{Channel, Flow, Task};
+use crate::text::TextFault;
+use nova_admit::{AdmitFault, Admitted, Pattern, admit};
+use nova_flow::FlowFault;
+use nova_value::{Name, Schema};
+use nova_workflow::{Channel, Task};
 use sqlite_items::Items;
 use std::alloc::{AllocError, Global};
 use std::marker::Model;
@@ -18,13 +23,12 @@ use std::marker::Model;
 #[derive(Drop)]
 pub struct Workflow {
     text: Items<u8>,
-    flow: Flow,
+    admitted: Admitted,
 }
 
 impl Model for Workflow {
-    ghost use Rattle.std.specs.Prelude.{◌≡◌, [], Some};
     ghost use Rattle.nova_machine.specs.Workflow.{Workflow as Seen};
-    ghost use Rattle.nova_runner.specs.Workflow.{flow_of};
+    ghost use Rattle.nova_runner.specs.Texts.{HasFlow, workflow_of};
     ghost use Rattle.nova_pig_algebra.specs.contracts.node.PlanExpr as e;
     ghost use Rattle.std.specs.Coded.{codes};
 
@@ -32,49 +36,15 @@ impl Model for Workflow {
 
     ghost coded = { Prim.hlevel (codes, e.the_row.coded) };
 
-    // No script is admitted yet, so there are no plans.
-    ghost view = { λ w. record { text = w.text; channels = w.flow.channels; tasks = w.flow.tasks; plans = [] } };
+    ghost view = { λ w. workflow_of w.text w.admitted.flow w.admitted.patterns };
 
-    ghost invariant = { λ w. flow_of w.text ≡ Some (record { text = w.text; channels = w.flow.channels; tasks = w.flow.tasks; plans = [] }) };
-}
-
-const RAW_TEXT: &[u8] =
-    b"[[channel]]\nname = \"raw\"\ncolumns = [\"id long\", \"url chararray\", \"ms long\"]\nkey = [\"id\"]\n";
-
-/// The text of the workflow of the one channel `raw`, which has no tasks.
-#[tactic(auto, unfolding(crate::specs::Workflow::flow_of))]
-pub fn one_channel_text() -> &'static [u8]
-    ensures text { result.now ≡ raw_text }
-    ensures flow { flow_of result.now ≡ Some (raw_flow result.now) }
-{
-    RAW_TEXT
+    ghost invariant = { λ w. HasFlow w.text (workflow_of w.text w.admitted.flow w.admitted.patterns) };
 }
 
 /// Each workflow that a text says keeps the rules on which the store rests.
 pub fn flows_are_admitted()
     ensures { FlowsAreAdmitted }
 {}
-
-/// The schema of `raw`: `id long, url chararray, ms long`, with `id` as its key.
-fn schema_of_raw(alloc: Global) -> Result<Schema, AllocError>
-    ensures { IfOk result (λ s. s ≡ raw_schema) }
-{
-    let columns = [
-        Column {
-            name: Name::new("id"),
-            kind: Kind::Long,
-        },
-        Column {
-            name: Name::new("url"),
-            kind: Kind::Text,
-        },
-        Column {
-            name: Name::new("ms"),
-            kind: Kind::Long,
-        },
-    ];
-    Schema::new(alloc, &columns, &[0])
-}
 
 /// A copy of bytes.
 pub(crate) fn copied(alloc: Global, bytes: &[u8]) -> Result<Items<u8>, AllocError>
@@ -85,58 +55,57 @@ pub(crate) fn copied(alloc: Global, bytes: &[u8]) -> Result<Items<u8>, AllocErro
     Ok(Items::from_vec(copy))
 }
 
-/// The one channel.
-fn channels_of_raw(alloc: Global) -> Result<Items<Channel>, AllocError>
-    ensures { IfOk result (λ channels. channels ≡ raw_channel ∷ []) }
+/// The plan of a pattern is one, as its type keeps it.
+fn is_plan(pattern: &Pattern)
+    ensures { IsPlan (plan_of pattern.now) }
 {
-    let mut channels = Vec::new(alloc);
-    channels.push(Channel {
-        name: Name::new("raw"),
-        schema: schema_of_raw(alloc)?,
-        writer: None,
-        based: false,
-    })?;
-    Ok(Items::from_vec(channels))
+    let plan = match pattern {
+        Pattern::N(plan) => plan,
+        Pattern::S(rows) => rows.plan(),
+        Pattern::L(rows) => rows.plan(),
+        Pattern::F(groups) => groups.plan(),
+    };
+    let _nodes = plan.nodes();
 }
 
-/// The workflow that a text says, or None where it is refused.
-#[tactic(auto, unfolding(crate::specs::Workflow::flow_of))]
-pub fn read_flow(alloc: Global, text: &[u8]) -> Result<Option<Workflow>, AllocError>
-    ensures { IfOk result (λ found. found ≡ flow_of text.now) }
+/// So is each plan of an admitted workflow.
+fn are_plans(admitted: &Admitted)
+    requires { HavePatterns admitted.now.flow admitted.now.flow.tasks admitted.now.patterns }
+    ensures { ArePlans admitted.now.patterns }
 {
-    if text != RAW_TEXT {
-        return Ok(None);
+    for task in 0..admitted.flow().tasks.len() as u32 {
+        is_plan(admitted.pattern(task));
     }
-    Ok(Some(Workflow {
-        text: copied(alloc, text)?,
-        flow: Flow {
-            channels: channels_of_raw(alloc)?,
-            tasks: Items::new(alloc),
-        },
-    }))
 }
 
-/// The writer of each channel.
-fn writers(alloc: Global, channels: &[Channel]) -> Result<Items<Option<u32>>, AllocError>
-    ensures { IfOk result (λ writers. writers ≡ map (λ (c : Seen). c.writer) channels.now) }
+/// The admitted workflow that a text reads as, or the text's first fault.
+fn admit_text(alloc: Global, text: &[u8]) -> Result<Result<Admitted, TextFault>, AllocError>
+    ensures { IfOk result (Admits text.now) }
 {
-    let mut writers = Vec::new(alloc);
-    for channel in channels {
-        writers.push(channel.writer)?;
+    let flow = match nova_flow::read_flow(alloc, text) {
+        Ok(flow) => flow,
+        Err(FlowFault::NoMemory) => return Err(AllocError),
+        Err(fault) => return Ok(Err(TextFault::Flow(fault))),
+    };
+    match admit(alloc, flow) {
+        Ok(admitted) => Ok(Ok(admitted)),
+        Err(AdmitFault::NoMemory) => Err(AllocError),
+        Err(fault) => Ok(Err(TextFault::Admit(fault))),
     }
-    Ok(Items::from_vec(writers))
 }
 
-/// What a catalog knows of a workflow.
-pub fn wiring(alloc: Global, flow: &Workflow) -> Result<Wiring, AllocError>
-    ensures wiring { IfOk result (λ wiring. wiring ≡ wiring_of flow.now) }
-    ensures right { IfOk result IsWiring }
+/// The workflow that a text says, or the text's first fault.
+pub fn read_flow(alloc: Global, text: &[u8]) -> Result<Result<Workflow, TextFault>, AllocError>
+    ensures { IfOk result (Says text.now) }
 {
-    let writers = writers(alloc, flow.flow.channels.as_slice())?;
-    Ok(Wiring {
-        writers,
-        tasks: Items::new(alloc),
-    })
+    match admit_text(alloc, text)? {
+        Ok(admitted) => {
+            are_plans(&admitted);
+            let text = copied(alloc, text)?;
+            Ok(Ok(Workflow { text, admitted }))
+        }
+        Err(fault) => Ok(Err(fault)),
+    }
 }
 
 /// The number of the first of these channels that has a name.
@@ -172,6 +141,14 @@ fn task_with(tasks: &[Task], name: &Name) -> Option<u32>
 }
 
 impl Workflow {
+    /// The workflow with the patterns of its tasks.
+    pub(crate) fn admitted(&self) -> &Admitted
+        ensures same { workflow_of self.now.text result.now.flow result.now.patterns ≡ self.now }
+        ensures says { HasFlow self.now.text self.now }
+    {
+        &self.admitted
+    }
+
     /// The text that it was read from.
     pub fn text(&self) -> &[u8]
         ensures { result.now ≡ self.now.text }
@@ -183,14 +160,14 @@ impl Workflow {
     pub fn channel_count(&self) -> u32
         ensures { result ≡ length self.now.channels }
     {
-        self.flow.channels.len() as u32
+        self.admitted.flow().channels.len() as u32
     }
 
     /// How many tasks it has.
     pub fn task_count(&self) -> u32
         ensures { result ≡ length self.now.tasks }
     {
-        self.flow.tasks.len() as u32
+        self.admitted.flow().tasks.len() as u32
     }
 
     /// The number of the channel with a name.
@@ -198,7 +175,7 @@ impl Workflow {
         ensures place { result ≡ place_from 0 (map (λ (c : Seen). c.name) self.now.channels) name.now }
         ensures in_range { IfSome result (λ c. c < length self.now.channels) }
     {
-        channel_with(self.flow.channels.as_slice(), name)
+        channel_with(self.admitted.flow().channels.as_slice(), name)
     }
 
     /// The number of the task with a name.
@@ -206,7 +183,7 @@ impl Workflow {
         ensures place { result ≡ place_from 0 (map (λ (t : SeenTask). t.name) self.now.tasks) name.now }
         ensures in_range { IfSome result (λ t. t < length self.now.tasks) }
     {
-        task_with(self.flow.tasks.as_slice(), name)
+        task_with(self.admitted.flow().tasks.as_slice(), name)
     }
 
     /// Whether a task writes a channel.
@@ -214,7 +191,7 @@ impl Workflow {
         requires { channel < length self.now.channels }
         ensures { result ≡ is_some (channel_in self.now channel).writer }
     {
-        let channels = self.flow.channels.as_slice();
+        let channels = self.admitted.flow().channels.as_slice();
         let channel = &channels[channel as usize];
         channel.writer.is_some()
     }
@@ -224,7 +201,7 @@ impl Workflow {
         requires { channel < length self.now.channels }
         ensures { result.now ≡ (channel_in self.now channel).name }
     {
-        let channels = self.flow.channels.as_slice();
+        let channels = self.admitted.flow().channels.as_slice();
         let channel = &channels[channel as usize];
         &channel.name
     }
@@ -234,7 +211,7 @@ impl Workflow {
         requires { channel < length self.now.channels }
         ensures { result.now ≡ schema_in self.now channel }
     {
-        let channels = self.flow.channels.as_slice();
+        let channels = self.admitted.flow().channels.as_slice();
         let channel = &channels[channel as usize];
         &channel.schema
     }

@@ -2,17 +2,18 @@ use Rattle.std.proofs.Common.{ℕ, List, ap, sym, ◌∙◌, subst, ◌<◌, ◌
 use Rattle.nova_journal.specs.Log.{frame}
 use Rattle.nova_commit.specs.Commits.{commit_bytes}
 use Rattle.nova_commit.specs.declared.commit.Commit.TheVariants as commit
+use Rattle.nova_runner.specs.Texts.{HasFlow, Says}
 use Rattle.nova_runner.proofs.Made.{short_first}
 use Rattle.nova_runner.proofs.making.blank_store.Goals as goal
 
 pub returns : goal.returns
 returns c =
-    let read = sym c.in_ok-flow.ensures ∙ c.in-Some.is in
+    let read : HasFlow c.args.text.now c.in-Ok.flow = subst (Says c.args.text.now) c.in-Ok.is c.in_ok-flow.ensures in
     let text = c.in_ok-copied.ensures in
     let framed = c.in_ok-framed.ensures ∙ ap frame (c.deref.ensures.value ∙ c.in_ok-payload.ensures) ∙ ap (λ (t : List ℕ). frame (commit_bytes (commit.Flow t))) text in
     record {
       flow = read;
       framed = framed;
       catalog = c.in_ok-catalog.ensures;
-      short = subst (λ (bs : List ℕ). length bs < 2 ^ 62) (sym framed) (short_first c.args.text.now c.in-Some.flow read);
+      short = subst (λ (bs : List ℕ). length bs < 2 ^ 62) (sym framed) (short_first c.args.text.now c.in-Ok.flow read);
     }

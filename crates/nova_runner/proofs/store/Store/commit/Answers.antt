@@ -5,8 +5,9 @@ use Rattle.nova_journal.specs.Marks.{IsIn}
 use Rattle.nova_commit.specs.Commits.{commit_bytes}
 use Rattle.nova_runner.specs.Committing.{Added, AreSpare, IsReady, Leads, Touched}
 use Rattle.nova_runner.specs.Held.{Held}
+use Rattle.nova_runner.specs.Opening.{IsRead}
 use Rattle.nova_runner.specs.Steps.{IsLeft, StoreStands}
-use Rattle.nova_runner.proofs.Writing.{added, in_host_still, left, still, still_holds, still_long, still_settled, touched, touched_at_once}
+use Rattle.nova_runner.proofs.Writing.{added, in_host_still, left, read_holds, reads_on, still, still_holds, still_long, still_settled, touched, touched_at_once}
 use Rattle.nova_runner.proofs.store.Store.commit.Goals as goal
 
 pub returns-in_err-put_all-clause-touched : goal.returns-in_err-put_all-clause-touched
@@ -80,3 +81,19 @@ returns-in-Ok-clause-in_host g c honest =
     let is = in_host_still c.self.inside.journal.generation c.self.inside.journal.length c.self.inside.catalog own c.args.fresh.now (g.H.Host.history c.args.host.now) (g.H.Host.history c.put_all.new.host) (c.put_all.ensures.others honest)
     (subst (λ (k : Held). IsIn k.journal.generation k.journal.length (current (g.H.Host.history c.args.host.now))) (sym e) (c.requires.in_host honest)) in
     (is.0 ++ commit_bytes own ∷ [], rw c.in-Ok.ensures.length.1 (c.in-Ok.ensures.added honest is.0 (commit_bytes own) is.1 (c.deref.ensures.value ∙ ready.framed)))
+
+pub returns-in-Ok-clause-read : goal.returns-in-Ok-clause-read
+returns-in-Ok-clause-read g c own fits ready honest commits read =
+    let e = c.self.view_is in
+    let H0 = g.H.Host.history c.args.host.now in
+    let H1 = g.H.Host.history c.put_all.new.host in
+    let H2 = g.H.Host.history c.append.new.host in
+    let old : Held = record { journal = c.self.inside.journal; flow = c.self.inside.flow; catalog = c.self.inside.catalog } in
+    let new : Held = record { journal = c.in-Ok.journal; flow = c.self.inside.flow; catalog = c.apply.new.self } in
+    let fresh = c.args.fresh.now in
+    let puts = c.put_all.ensures.others honest in
+    let read_now = subst (λ (k : Held). IsRead k commits (current H0)) (sym e) read in
+    let ready_now = subst (λ (k : Held). IsReady k own c.args.ready) (sym e) ready in
+    let framed = c.deref.ensures.value ∙ ready_now.framed in
+    let holds = c.in-Ok.ensures.added honest (map commit_bytes commits) (commit_bytes own) (read_holds old commits own fresh H0 H1 puts read_now) framed in
+    reads_on old commits own fresh H0 H1 puts read_now H2 new (c.in-Ok.ensures.others honest) refl (c.apply.ensures own ready_now.prepared) c.in-Ok.ensures.length.1 holds fits ready_now.prepared.allowed

@@ -17,5 +17,5 @@ pub returns-clause-opened : goal.returns-clause-opened
 returns-clause-opened g c honest =
     let told = subst (λ ps. NotReadTold c.in-Err-read_commits.why (payloads_of ps)) c.as_slice.ensures.value c.in-Err-read_commits.ensures.read in
     subst (λ (why : OpenFault). UnopenedTold why (current (g.H.Host.history c.args.host.now))) (sym c.unread.ensures)
-    (bad_store (current (g.H.Host.history c.args.host.now)) c.in-Ok.found.0.generation c.in-Ok.found.0.length _ (payloads_of c.in-Ok.found.1.items) c.in-Err-read_commits.why (ap (λ n. 4 * n) c.generation.ensures)
+    (bad_store (current (g.H.Host.history c.args.host.now)) c.in-Ok.found.0.generation c.in-Ok.found.0.length _ (payloads_of c.in-Ok.found.1.items) c.in-Err-read_commits.why (ap (λ n. 4 * n) c.generation.ensures.is)
     (c.in-Ok.ensures.found honest).0 (c.in-Ok.ensures.found honest).1 told)

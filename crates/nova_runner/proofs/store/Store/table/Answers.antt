@@ -6,9 +6,9 @@ use Rattle.nova_runner.specs.Held.{Held}
 use Rattle.std.specs.Bool.{IsTrue}
 use Rattle.std.specs.Result.{IfOk, IfErr, IsErr}
 use Rattle.nova_outside.specs.History.{current}
-use Rattle.nova_runner.specs.Reading.{GivesNewest, IsNewestDamage, ReadStops}
+use Rattle.nova_runner.specs.Reading.{GivesNewest, IsNewestDamage, IsNewestRead, ReadStops}
 use Rattle.nova_runner.specs.Steps.{AsksShow}
-use Rattle.nova_runner.proofs.Newest.{gives_newest, read_stops, table_whole}
+use Rattle.nova_runner.proofs.Newest.{gives_newest, newest_read, read_stops, table_whole}
 use Rattle.nova_runner.proofs.Readables.{in_range}
 use Rattle.nova_runner.proofs.store.Store.table.Goals as goal
 
@@ -27,6 +27,13 @@ returns-clause-newest g c =
     let inside : Held = record { journal = c.self.inside.journal; flow = c.self.inside.flow; catalog = c.self.inside.catalog } in
     subst (λ (k : Held). IfOk c.read_table.result (λ t. GivesNewest g.H.Host.is_honest k c.args.channel t a)) c.self.view_is
     (gives_newest g.H.Host.is_honest inside c.args.channel a c.schema.result.now c.version-version.result c.schema.ensures c.version-version.ensures c.read_table.result c.read_table.ensures.schema c.read_table.ensures.reads)
+
+pub returns-clause-read : goal.returns-clause-read
+returns-clause-read g c =
+    let a = g.H.Host.history c.args.host.now in
+    let inside : Held = record { journal = c.self.inside.journal; flow = c.self.inside.flow; catalog = c.self.inside.catalog } in
+    subst (λ (k : Held). IsTrue g.H.Host.is_honest → IfOk c.read_table.result (IsNewestRead k c.args.channel (current a))) c.self.view_is
+    (newest_read g.H.Host.is_honest inside c.args.channel a c.schema.result.now c.version-version.result c.schema.ensures c.version-version.ensures c.read_table.result c.read_table.ensures.schema c.read_table.ensures.reads)
 
 pub returns-clause-stops : goal.returns-clause-stops
 returns-clause-stops g c =

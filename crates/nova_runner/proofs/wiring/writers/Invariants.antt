@@ -1,6 +1,6 @@
 use Rattle.std.proofs.Common.{◌≡◌, map, take}
 use Rattle.nova_workflow.specs.declared.flow.Channel.{Channel}
-use Rattle.nova_runner.proofs.workflow.writers.Given as goal
+use Rattle.nova_runner.proofs.wiring.writers.Given as goal
 
 abbrev pub invariant-loop-channel : goal.invariant-loop-channel
 invariant-loop-channel l = record {

@@ -29,6 +29,9 @@ fn answer(
     match step.verb.as_str() {
         "nova" => program::call(alloc, step, host, piece),
         "edit" | "cut" => program::damage(alloc, step.words.as_str(), host),
+        "put" | "fail" => program::prepare(alloc, step, host),
+        "file" => program::file(alloc, step.words.as_str(), host),
+        "taken" => program::taken(alloc, host),
         "row" => values::row(alloc, &step.input),
         "keys" => values::keys(alloc, &step.input),
         _ => b"no such step\n".to_vec(alloc),

@@ -2,6 +2,7 @@
 use nova_case::{Step, bytes_of};
 use nova_engine::nova;
 use nova_mem::{MemHost, MemSource};
+use nova_outside::put_file;
 use std::alloc::{AllocError, Global};
 
 /// The words of a line, parted by a space.
@@ -18,8 +19,12 @@ fn words_of(alloc: Global, line: &str) -> Result<Vec<String>, AllocError> {
     Ok(words)
 }
 
-/// The step's input, in pieces of this length.
+/// The most pieces of an input, but for one.
+const PIECES: usize = 65536;
+
+/// The step's input, in pieces of this length, or of a longer one where they would be too many.
 fn source_of(alloc: Global, step: &Step, piece: usize) -> Result<MemSource, AllocError> {
+    let piece = piece.max(step.input.len() / PIECES);
     let pieces = vec![in alloc; piece; step.input.len()]?;
     let mut source = MemSource::new(alloc, step.input.as_slice().to_vec(alloc)?, pieces);
     if !step.is_readable {
@@ -76,6 +81,33 @@ fn cut_to(host: &mut MemHost, file: u64, length: u64) -> bool {
         host.cut(file, length);
     }
     is_longer
+}
+
+/// Prepares the host: `put FILE` makes a file of the step's input, and after `fail N` the call N of
+/// the host from there on fails, the next one being 0. There is an answer only where that fails.
+pub fn prepare(alloc: Global, step: &Step, host: &mut MemHost) -> Result<Vec<u8>, AllocError> {
+    let number = number(Some(step.words.as_str()));
+    if step.verb.as_str() == "fail" {
+        host.fail_at(host.calls().saturating_add(number))?;
+    } else if put_file(host, number, &step.input).is_err() {
+        return b"not put\n".to_vec(alloc);
+    }
+    Ok(Vec::new(alloc))
+}
+
+/// The bytes of a file, and a newline.
+pub fn file(alloc: Global, words: &str, host: &MemHost) -> Result<Vec<u8>, AllocError> {
+    let Some(bytes) = host.file(number(Some(words))) else {
+        return b"no such file\n".to_vec(alloc);
+    };
+    let mut answer = bytes.to_vec(alloc)?;
+    answer.push(b'\n')?;
+    Ok(answer)
+}
+
+/// How many bytes of its files the host has given so far.
+pub fn taken(alloc: Global, host: &MemHost) -> Result<Vec<u8>, AllocError> {
+    Ok(format!(in alloc; "{} bytes\n", host.read_count())?.into_bytes())
 }
 
 /// Damages a file: `edit FILE AT BYTE` puts a byte in the place of another, `cut FILE LENGTH`

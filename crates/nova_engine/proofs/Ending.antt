@@ -1,306 +1,346 @@
--- How a call ends.
-use Rattle.std.proofs.Common.{◌≡◌, ◌≢◌, ℕ, ◌+◌, ◌-◌, ◌<◌, ◌≤◌, ◌^◌, Bool, false, List, [], ◌++◌, length, take, Option, Some, None, ◌⊎◌, Result, Ok, Err, IsTrue, inl, inr, refl, sym, ap, ◌∙◌, arith, length-append, subst}
-use Rattle.std.proofs.lemmas.List.{append-nil, take-append-le}
-use Rattle.std.proofs.Math.Seq.{take-append_seam, take-length}
-use Rattle.std.specs.Result.{MatchResult}
-use Rattle.std.specs.Io.KnownBytes.{Consumes, IsAtEnd}
-use Rattle.std.proofs.KnownBytes.{Consumes-trans}
-use Rattle.nova_value.specs.Text.{has_newline}
-use Rattle.nova_outside.specs.History.{Event, current}
-use Rattle.nova_outside.proofs.ReplyLemmas.{begins_all, begins_nothing}
-use Rattle.nova_raw_machine.specs.Lines.{whole_lines_of}
-use Rattle.nova_raw_machine.specs.State.{State}
-use Rattle.nova_raw_machine.specs.Steps.{Step, after_all}
-use Rattle.nova_raw_machine.specs.Commands.{Command, commands_of, whole_commands_of, ended_commands, steps}
-use Rattle.nova_raw_machine.specs.Replies.{text}
-use Rattle.nova_raw_machine.proofs.Cuts.{whole_lines_at_end}
-use Rattle.nova_raw_machine.proofs.Turns.{steps-append}
-use Rattle.nova_engine.specs.declared.reader.LineReader.{LineReader}
-use Rattle.nova_engine.specs.declared.stop.Stop.{Stop}
-use Rattle.nova_engine.specs.declared.stop.Stop.TheVariants.{Disk, Reply, Full, Memory}
-use Rattle.nova_engine.specs.declared.kept.Store.{Store}
-use Rattle.nova_engine.specs.Positions.{Loading, Position, commands_in, commands_at, whole_commands_at}
-use Rattle.nova_engine.specs.Steps.{Adds, IsWithin, Stops, StopsIn}
-use Rattle.nova_engine.specs.Stored.{GrowsWithin, Stands}
-use Rattle.nova_engine.proofs.Storing.{keeps_stands}
-use Rattle.nova_engine.specs.Standing.{StandsFor}
-use Rattle.nova_engine.specs.Moves.{IsAt, BreaksOn, Finishes, StopsFinish}
-use Rattle.nova_engine.specs.Status.{code_of, stop_status, ended_status}
-use Rattle.nova_engine.specs.Ends.{Told, RepliesTold, session_steps, whole_steps}
-use Rattle.nova_engine.proofs.Moving.{text_front, breaks_both, stops_commands-before, stops_commands-behind, adds_commands, after_commands}
-use Rattle.nova_engine.proofs.Reached.{Reached, Reaches, opening}
+-- How a session ends, told by its steps.
+use Rattle.std.proofs.Common.{◌≡◌, ◌≢◌, ◌⊎◌, inl, inr, ℕ, ◌+◌, ◌<◌, ◌≤◌, List, [], ◌∷◌, ◌++◌, map, Option, Some, None, refl, sym, ap, ◌∙◌, append_assoc, subst, arith}
+use Rattle.std.proofs.lemmas.List.{append-nil}
+use Rattle.nova_outside.specs.Disk.{Files}
+use Rattle.nova_outside.specs.History.{Begins, current, replies}
+use Rattle.nova_path.specs.Lists.{IsOneOf}
+use Rattle.nova_channel.specs.Reading.{block_file}
+use Rattle.nova_journal.specs.Log.{LogTo}
+use Rattle.nova_commit.specs.Commits.{commit_bytes}
+use Rattle.nova_commit.specs.declared.commit.Commit.{Commit}
+use Rattle.nova_meta.specs.Catalog.{Entered}
+use Rattle.nova_script.specs.Replies as line
+use Rattle.nova_machine.specs.Workflow.{Workflow}
+use Rattle.nova_machine.specs.State.{State, ended}
+use Rattle.nova_machine.specs.Steps.{Step, after, after_all}
+use Rattle.nova_machine.specs.Replies.{text}
+use Rattle.nova_machine.proofs.Turns.{after_all-append, flow_after, flow_stays}
+use Rattle.nova_runner.specs.Acts.{IsFull, IsStepDamage, MayChange, behind, catalog_behind, own_commit, read_size}
+use Rattle.nova_runner.specs.Files.{IsSettled, journal_file}
+use Rattle.nova_runner.specs.Held.{Held}
+use Rattle.nova_runner.specs.Stands.{StandsBut}
+use Rattle.nova_runner.specs.Steps.{BrokeOff, HasKeptRoom, HeldBack, IsKeptBy, LosesNone, NoRoom}
+use Rattle.nova_engine.specs.declared.status.Status.{Status}
+use Rattle.nova_engine.specs.declared.status.Status.TheVariants as exit
+use Rattle.nova_engine.specs.Seen.{Seen}
+use Rattle.nova_engine.specs.Sessions.{DamagedNext, FullNext, GivenBy, IsKeptBehind, SessionTold, reached, session_steps, whole_steps}
+use Rattle.nova_engine.specs.Taking.{Takes}
+use Rattle.nova_engine.specs.Turns.{IsTheirs, NoneDamaged, StaysShort, catalog_after, first, own_commits, read_sizes}
+use Rattle.nova_engine.proofs.Takings.{loses_both, one_of_left, one_of_right, short_both, short_one}
+use Rattle.nova_engine.proofs.Undamaged.{below_of, none_append, none_moved, none_one, not_own}
+use Rattle.nova_engine.proofs.Turns.{catalog_after-append, own_commits-append, read_sizes-append}
 
--- what a source that tells its bytes has left
-consumed_known : (left now : Option (List ℕ)) (input bytes : List ℕ) → left ≡ Some input → Consumes left now bytes → (rest : List ℕ) × (now ≡ Some rest) × (input ≡ bytes ++ rest)
-consumed_known None now input bytes is consumed = absurd (no_left input is)
-  where
-    no_left : (xs : List ℕ) → None ≡ Some xs → ⊥
-    no_left xs e = let P : Option (List ℕ) → Type 0 = λ o. elim o as (λ _. Type 0) [ None ↦ Unit {0} | Some ys ↦ ⊥ ] in subst P e tt
-consumed_known (Some xs) None input bytes is consumed = absurd consumed
-consumed_known (Some xs) (Some ys) input bytes is consumed = let same : xs ≡ input = cc in (ys, refl, sym same ∙ consumed)
+-- reading no less behind more steps
+more_reads : (cat : Entered) (s : State) (xs ys : List Step) → read_sizes cat s xs ≤ read_sizes cat s (xs ++ ys)
+more_reads cat s xs ys = let sizes = read_sizes-append cat s xs ys in omega (arith, sizes)
 
--- nothing whole is left in a line that is being read, nor in a load
-nothing_whole : (load : Option Loading) → ended_commands (commands_in load []) ≡ []
-nothing_whole None = refl
-nothing_whole (Some load) = refl
+-- ---- steps that were taken
 
-whole_at_end : (p : Position) → has_newline p.carry ≡ false → whole_commands_at p [] ≡ []
-whole_at_end p clean =
-    ap (λ t. ended_commands (commands_in p.load (whole_lines_of t))) (append-nil p.carry)
-    ∙ ap (λ ls. ended_commands (commands_in p.load ls)) (whole_lines_at_end p.carry clean)
-    ∙ nothing_whole p.load
+module _ (store new : Held) (commits : List Commit) (s : State) (xs later : List Step) (a b : Seen) (takes : Takes store new commits s xs a b) where
+  pub kept_behind : IsKeptBehind store.journal.generation commits store.catalog s xs later xs (current a.history) (current b.history)
+  kept_behind = record {
+    stands = subst (λ g. StandsBut g (commits ++ own_commits store.catalog s xs) (catalog_after store.catalog s xs) (current b.history) (ended (after_all s xs))) takes.generation
+        (subst (λ (c : Entered). StandsBut new.journal.generation (commits ++ own_commits store.catalog s xs) c (current b.history) (ended (after_all s xs))) takes.catalog takes.stands.by);
+    no_loss = subst (λ (f : Workflow). LosesNone f store.catalog (catalog_after store.catalog s xs) (current a.history) (current b.history)) (sym (flow_stays s xs))
+        (subst (λ (c : Entered). LosesNone s.flow store.catalog c (current a.history) (current b.history)) takes.catalog takes.no_loss);
+  }
 
-carry_clean : (h : Bool) (reader : LineReader) (b : List Event) (p : Position) → IsAt h reader b p → has_newline p.carry ≡ false
-carry_clean h reader b p at = rw at.carried reader.one_line
+  -- the call ended right behind them, of its own accord
+  pub told_behind : (status : Status) (input taken : List ℕ) → session_steps s input ≡ xs ++ later
+      → GivenBy store.journal.generation commits store.catalog s xs later status (current b.history) (text s xs) → reached status xs later ≡ xs → status ≢ exit.Full
+      → ((status ≡ exit.ReadFault) ⊎ (status ≡ exit.InputTooLong) → xs ≡ whole_steps s taken) → (status ≡ exit.Done → later ≡ [])
+      → SessionTold status store.journal.generation commits store.catalog s input taken a b
+  told_behind status input taken parts gives reach full cut whole = record {
+    done = xs;
+    later = later;
+    parts = parts;
+    given = text s xs;
+    replied = takes.replied;
+    gives = gives;
+    kept = inl kept_behind;
+    settled = λ steady was. subst (λ g. IsSettled g (catalog_after store.catalog s xs) b.history) takes.generation (subst (λ (c : Entered). IsSettled new.journal.generation c b.history) takes.catalog (takes.settled was));
+    undamaged = takes.undamaged;
+    room = takes.room;
+    others = λ n free. takes.others n (λ is. free (subst (λ zs. IsTheirs store.journal.generation (own_commits store.catalog s zs) n) (sym reach) is));
+    full = λ e. absurd (full e);
+    cut = cut;
+    whole = whole;
+    reads = let most = more_reads store.catalog s xs (first later) in omega (arith, takes.reads, most);
+  }
 
--- the commands that were taken are the whole ones
-whole_taken : (h : Bool) (s : State) (reader : LineReader) (a b : List Event) (bytes : List ℕ) (r : Reaches h s reader a b bytes) → whole_commands_of bytes ≡ r.advances.commands
-whole_taken h s reader a b bytes r =
-    ap whole_commands_of (sym (append-nil bytes)) ∙ r.advances.whole []
-    ∙ ap (λ cs. r.advances.commands ++ cs) (whole_at_end r.to (carry_clean h reader b r.to r.at)) ∙ append-nil r.advances.commands
+-- ---- a session that stopped
 
--- the steps of the session begin with those that were taken
-steps_begin : (s : State) (input : List ℕ) (cs ds : List Command) → commands_of input ≡ cs ++ ds → session_steps s input ≡ steps s cs ++ steps (after_all s (steps s cs)) ds
-steps_begin s input cs ds is = ap (steps s) is ∙ steps-append s cs ds
+-- one more step's commit
+one_commit : (cat : Entered) (s : State) (xs : List Step) (x : Step) → own_commits cat s (xs ++ x ∷ []) ≡ own_commits cat s xs ++ behind [] (own_commit (catalog_after cat s xs) (after_all s xs) x)
+one_commit cat s xs x = own_commits-append cat s xs (x ∷ []) ∙ ap (λ cs. own_commits cat s xs ++ cs) (append-nil (behind [] (own_commit (catalog_after cat s xs) (after_all s xs) x)))
 
--- the replies of steps that were all taken
-within_taken : (s : State) (xs ys : List Step) → IsWithin s (xs ++ ys) (length xs) (text s xs)
-within_taken s xs ys =
-    let all = take-append_seam xs ys in
-    record {
-      front = rw all (begins_all (text s xs));
-      behind = λ some. rw (ap (text s) (front_of xs ys some)) (text_front s xs (length xs - 1));
-    }
-  where
-    front_of : (xs ys : List Step) → 0 < length xs → take (length xs - 1) (xs ++ ys) ≡ take (length xs - 1) xs
-    front_of xs ys some = let fits : length xs - 1 ≤ length xs = omega arith in take-append-le (length xs - 1) xs ys fits
+theirs_by : (g : ℕ) (own : Option Commit) (n : ℕ) → MayChange g own n → IsTheirs g (behind [] own) n
+theirs_by g None n may = absurd may
+theirs_by g (Some c) n may = (c, inl refl, may)
 
--- the call ended between two commands
-between : (h : Bool) (status : ℕ) (s : State) (reader : LineReader) (a b : List Event) (input bytes rest : List ℕ) → Reaches h s reader a b bytes → input ≡ bytes ++ rest → status ≢ 0 → status ≢ 10 → IsTrue h → RepliesTold status s input bytes a b
-between h status s reader a b input bytes rest reaches is other ten honest =
-    let taken = reaches.advances.commands in
-    let xs = steps s taken in
-    let ys = steps (after_all s xs) (commands_at reaches.to rest) in
-    let all : session_steps s input ≡ xs ++ ys = steps_begin s input taken (commands_at reaches.to rest) (ap commands_of is ∙ reaches.advances.cut rest) in
-    let whole : whole_steps s bytes ≡ xs = ap (steps s) (whole_taken h s reader a b bytes reaches) in
-    record {
-      k = length xs;
-      fits = rw all (omega (arith, length-append xs ys));
-      given = text s xs;
-      replied = (reaches.advances.adds honest).replied;
-      grows = (reaches.advances.adds honest).grows;
-      within = rw all (within_taken s xs ys);
-      whole = λ _. rw (all, take-append_seam xs ys) refl;
-      held = inl (rw (all, take-append_seam xs ys) (rw reaches.advances.state at (keeps_stands _ _ b reaches.to.state (reaches.at.stands.keeps honest))));
-      full = λ e. absurd (ten e);
-      cut = λ _. rw whole (refl, refl);
-      done = λ e. absurd (other e);
-    }
+module _ (store at : Held) (commits : List Commit) (s : State) (done more : List Step) (step : Step) (a mid b : Seen) (takes : Takes store at commits s done a mid) where
+  abbrev pub cat : Entered
+  cat = store.catalog
 
-pub told_between : (status : ℕ) (h : Bool) (store : Store) (reader : LineReader) (a b : List Event) (left now : Option (List ℕ)) (taken : ℕ) (input : List ℕ) → Reached h store reader a b left now taken
-    → left ≡ Some input → status ≢ 0 → status ≢ 10 → ((status ≡ 6) ⊎ (status ≡ 9) → ⊥) → taken ≤ 2 ^ 40 + 1 → (status ≡ 11 → 2 ^ 40 < taken) → (status ≡ 2 → taken ≤ 2 ^ 40) → Told status h (StandsFor h store a) input now a b
-told_between status h store reader a b left now taken input reached is other ten read bound long short =
-    let known = consumed_known left now input reached.bytes is reached.consumed in
-    record {
-      taken = reached.bytes;
-      rest = known.0;
-      left_is = known.1;
-      input_is = known.2;
-      bound = rw reached.counted bound;
-      done = λ e. absurd (other e);
-      long = λ e. rw reached.counted (long e);
-      short = λ e. elim e [ inl zero_is ↦ absurd (other zero_is) | inr two_is ↦ rw reached.counted (short two_is) ];
-      unread = λ e. absurd (read e);
-      replies = λ honest s stands. between h status s reader a b input reached.bytes known.0 (reached.moves s stands) known.2 other ten honest;
-    }
+  abbrev pub state : State
+  state = after_all s done
 
--- a session that stopped is neither done, nor one whose read failed or whose input was too long
-not_done : (stop : Stop) → code_of (stop_status stop) ≢ 0
-not_done Disk e = omega (arith, e)
-not_done Full e = omega (arith, e)
-not_done Reply e = omega (arith, e)
-not_done Memory e = omega (arith, e)
+  abbrev pub behind_commits : List Commit
+  behind_commits = commits ++ own_commits cat s done
 
-not_read : (stop : Stop) → code_of (stop_status stop) ≢ 2
-not_read Disk e = omega (arith, e)
-not_read Full e = omega (arith, e)
-not_read Reply e = omega (arith, e)
-not_read Memory e = omega (arith, e)
+  own_is : own_commit at.catalog state step ≡ own_commit (catalog_after cat s done) state step
+  own_is = ap (λ c. own_commit c state step) takes.catalog
 
-not_long : (stop : Stop) → code_of (stop_status stop) ≢ 11
-not_long Disk e = omega (arith, e)
-not_long Full e = omega (arith, e)
-not_long Reply e = omega (arith, e)
-not_long Memory e = omega (arith, e)
+  -- what is kept behind the step too
+  all_commits : behind behind_commits (own_commit at.catalog state step) ≡ commits ++ own_commits cat s (done ++ step ∷ [])
+  all_commits =
+      ap (behind behind_commits) own_is
+      ∙ with_own behind_commits (own_commit (catalog_after cat s done) state step)
+      ∙ append_assoc commits (own_commits cat s done) (behind [] (own_commit (catalog_after cat s done) state step))
+      ∙ ap (λ cs. commits ++ cs) (sym (one_commit cat s done step))
+    where
+      with_own : (cs : List Commit) (own : Option Commit) → behind cs own ≡ cs ++ behind [] own
+      with_own cs None = sym (append-nil cs)
+      with_own cs (Some c) = refl
 
--- nor did it find no store
-not_unread : (stop : Stop) → (code_of (stop_status stop) ≡ 6) ⊎ (code_of (stop_status stop) ≡ 9) → ⊥
-not_unread stop (inl six) = not_six stop six
-  where
-    not_six : (stop : Stop) → code_of (stop_status stop) ≢ 6
-    not_six Disk e = omega (arith, e)
-    not_six Reply e = omega (arith, e)
-    not_six Full e = omega (arith, e)
-    not_six Memory e = omega (arith, e)
-not_unread stop (inr nine) = not_nine stop nine
-  where
-    not_nine : (stop : Stop) → code_of (stop_status stop) ≢ 9
-    not_nine Disk e = omega (arith, e)
-    not_nine Reply e = omega (arith, e)
-    not_nine Full e = omega (arith, e)
-    not_nine Memory e = omega (arith, e)
+  all_catalog : catalog_behind at.catalog (own_commit at.catalog state step) ≡ catalog_after cat s (done ++ step ∷ [])
+  all_catalog = ap (λ c. catalog_behind c (own_commit c state step)) takes.catalog ∙ sym (catalog_after-append cat s done (step ∷ []))
 
-is_full : (stop : Stop) → code_of (stop_status stop) ≡ 10 → stop ≡ Full
-is_full Full e = refl
-is_full Disk e = absurd (omega (arith, e))
-is_full Reply e = absurd (omega (arith, e))
-is_full Memory e = absurd (omega (arith, e))
+  all_state : after state step ≡ after_all s (done ++ step ∷ [])
+  all_state = sym (after_all-append s done (step ∷ []))
 
-stop_is : (stop : Stop) → code_of (stop_status stop) ≢ 4 → stop ≢ Reply
-stop_is stop other e = other (ap (λ x. code_of (stop_status x)) e)
+  later_loss : (flow : Workflow) (now : Entered) (files : Files) → flow ≡ s.flow → LosesNone flow at.catalog now (current mid.history) files → LosesNone s.flow cat now (current a.history) files
+  later_loss flow now files same loss = loses_both s.flow flow cat at.catalog now (current a.history) (current mid.history) files same takes.no_loss loss
 
-stopped_replies : (stop : Stop) (s : State) (input taken : List ℕ) (a b : List Event) → Stops stop s (session_steps s input) a b → RepliesTold (code_of (stop_status stop)) s input taken a b
-stopped_replies stop s input taken a b stops = record {
-  k = stops.k;
-  fits = stops.fits;
-  given = stops.given;
-  replied = stops.replied;
-  within = stops.within;
-  whole = λ other. stops.whole (stop_is stop other);
-  held = elim stops.held [ inl same ↦ inl same | inr next ↦ inr (ap (λ x. code_of (stop_status x)) next.0, next.1) ];
-  grows = stops.grows;
-  full = λ e. stops.full (is_full stop e);
-  cut = λ e. elim e [ inl two ↦ absurd (not_read stop two) | inr eleven ↦ absurd (not_long stop eleven) ];
-  done = λ e. absurd (not_done stop e);
-}
+  pub kept_more : IsKeptBy at.journal.generation (behind behind_commits (own_commit at.catalog state step)) at.catalog (catalog_behind at.catalog (own_commit at.catalog state step)) (current mid.history) (current b.history) (after state step)
+      → IsKeptBehind store.journal.generation commits cat s done more (done ++ step ∷ []) (current a.history) (current b.history)
+  kept_more kept = record {
+    stands = subst (λ g. StandsBut g (commits ++ own_commits cat s (done ++ step ∷ [])) (catalog_after cat s (done ++ step ∷ [])) (current b.history) (ended (after_all s (done ++ step ∷ [])))) takes.generation
+        (subst (λ (c : Entered). StandsBut at.journal.generation (commits ++ own_commits cat s (done ++ step ∷ [])) c (current b.history) (ended (after_all s (done ++ step ∷ [])))) all_catalog
+        (subst (λ cs. StandsBut at.journal.generation cs (catalog_behind at.catalog (own_commit at.catalog state step)) (current b.history) (ended (after_all s (done ++ step ∷ [])))) all_commits
+        (subst (λ (t : State). StandsBut at.journal.generation (behind behind_commits (own_commit at.catalog state step)) (catalog_behind at.catalog (own_commit at.catalog state step)) (current b.history) (ended t)) all_state kept.stands)));
+    no_loss = subst (λ (f : Workflow). LosesNone f cat (catalog_after cat s (done ++ step ∷ [])) (current a.history) (current b.history)) (sym (flow_stays s (done ++ step ∷ [])))
+        (subst (λ (c : Entered). LosesNone s.flow cat c (current a.history) (current b.history)) all_catalog
+        (later_loss (after state step).flow (catalog_behind at.catalog (own_commit at.catalog state step)) (current b.history) (flow_after state step ∙ flow_stays s done) kept.no_loss));
+  }
 
--- the call stopped within a piece
-pub told_broken : (stop : Stop) (h : Bool) (store : Store) (reader : LineReader) (a b c : List Event) (left now next : Option (List ℕ)) (taken : ℕ) (piece : List ℕ) (input : List ℕ) → Reached h store reader a b left now taken
-    → Consumes now next piece → BreaksOn stop h reader b c piece → left ≡ Some input → taken + length piece ≤ 2 ^ 40 + 1 → Told (code_of (stop_status stop)) h (StandsFor h store a) input next a c
-told_broken stop h store reader a b c left now next taken piece input reached consumed breaks is bound =
-    let bytes = reached.bytes ++ piece in
-    let known = consumed_known left next input bytes is (Consumes-trans left now next reached.bytes piece reached.consumed consumed) in
-    let count = reached.counted in
-    record {
-      taken = bytes;
-      rest = known.0;
-      left_is = known.1;
-      input_is = known.2;
-      bound = omega (arith, length-append reached.bytes piece, count, bound);
-      done = λ e. absurd (not_done stop e);
-      long = λ e. absurd (not_long stop e);
-      short = λ e. elim e [ inl zero_is ↦ absurd (not_done stop zero_is) | inr two_is ↦ absurd (not_read stop two_is) ];
-      unread = λ e. absurd (not_unread stop e);
-      replies = λ honest s stands.
-          let reaches = reached.moves s stands in
-          let broke = breaks_both stop h (opening s) reaches.to a b c reached.bytes piece reaches.advances (breaks reaches.to reaches.at) in
-          let more = broke.cut known.0 in
-          let all : commands_of input ≡ broke.commands ++ more.0 = ap commands_of known.2 ∙ more.1 in
-          stopped_replies stop s input bytes a c (rw all (stops_commands-before stop h s broke.commands more.0 a c broke.stops honest));
-    }
+  pub kept_same : IsKeptBy at.journal.generation behind_commits at.catalog at.catalog (current mid.history) (current b.history) state
+      → IsKeptBehind store.journal.generation commits cat s done more done (current a.history) (current b.history)
+  kept_same kept = record {
+    stands = subst (λ g. StandsBut g behind_commits (catalog_after cat s done) (current b.history) (ended state)) takes.generation
+        (subst (λ (c : Entered). StandsBut at.journal.generation behind_commits c (current b.history) (ended state)) takes.catalog kept.stands);
+    no_loss = subst (λ (f : Workflow). LosesNone f cat (catalog_after cat s done) (current a.history) (current b.history)) (sym (flow_stays s done))
+        (subst (λ (c : Entered). LosesNone s.flow cat c (current a.history) (current b.history)) takes.catalog
+        (later_loss state.flow at.catalog (current b.history) (flow_stays s done) kept.no_loss));
+  }
 
--- at the end nothing is left
-nothing_left : (now : Option (List ℕ)) (rest : List ℕ) → now ≡ Some rest → IsAtEnd now → rest ≡ []
-nothing_left None rest is end = absurd (no_left rest is)
-  where
-    no_left : (xs : List ℕ) → None ≡ Some xs → ⊥
-    no_left xs e = let P : Option (List ℕ) → Type 0 = λ o. elim o as (λ _. Type 0) [ None ↦ Unit {0} | Some ys ↦ ⊥ ] in subst P e tt
-nothing_left (Some xs) rest is end = let same : xs ≡ rest = cc in sym same ∙ end
+  -- and the journal stays short
+  pub room_more : HasKeptRoom behind_commits (own_commit at.catalog state step) → StaysShort commits (own_commits cat s (done ++ step ∷ []))
+  room_more room =
+      let here = short_one behind_commits (own_commit (catalog_after cat s done) state step) (subst (λ o. HasKeptRoom behind_commits o) own_is room) in
+      subst (λ own. StaysShort commits own) (sym (own_commits-append cat s done (step ∷ [])))
+      (short_both commits (own_commits cat s done) (behind [] (own_commit (catalog_after cat s done) state step) ++ []) takes.room here)
 
--- the input was read to its end
-pub told_finish : (r : Result (Unit {0}) Stop) (h : Bool) (store : Store) (reader : LineReader) (a b c : List Event) (left now : Option (List ℕ)) (taken : ℕ) (input : List ℕ) → Reached h store reader a b left now taken
-    → IsAtEnd now → MatchResult r (λ _. Finishes h reader b c) (λ stop. StopsFinish stop h reader b c) → left ≡ Some input → taken ≤ 2 ^ 40 → Told (code_of (ended_status r)) h (StandsFor h store a) input now a c
-told_finish (Ok u) h store reader a b c left now taken input reached end finishes is bound =
-    let known = consumed_known left now input reached.bytes is reached.consumed in
-    let none = nothing_left now known.0 known.1 end in
-    let count = reached.counted in
-    record {
-      taken = reached.bytes;
-      rest = known.0;
-      left_is = known.1;
-      input_is = known.2;
-      bound = omega (arith, count, bound);
-      done = λ _. none;
-      long = λ e. absurd (omega (arith, e));
-      short = λ _. omega (arith, count, bound);
-      unread = λ e. absurd (elim e [ inl six ↦ omega (arith, six) | inr nine ↦ omega (arith, nine) ]);
-      replies = λ honest s stands.
-          let reaches = reached.moves s stands in
-          let done = reaches.advances.commands in
-          let left_over = commands_at reaches.to [] in
-          let all : commands_of input ≡ done ++ left_over = ap commands_of (known.2 ∙ ap (λ t. reached.bytes ++ t) none) ∙ reaches.advances.cut [] in
-          let state = reaches.advances.state in
-          let rest = rw state at (finishes reaches.to reaches.at) in
-          let added = adds_commands h s done left_over a b c reaches.advances.adds rest.adds honest in
-          record {
-            k = length (session_steps s input);
-            fits = omega arith;
-            given = text s (session_steps s input);
-            replied = rw all added.replied;
-            grows = added.grows;
-            within = record {
-              front = rw (take-length (session_steps s input)) (begins_all (text s (session_steps s input)));
-              behind = λ some. text_front s (session_steps s input) (length (session_steps s input) - 1);
-            };
-            whole = λ _. rw (take-length (session_steps s input)) refl;
-            held = inl (rw (take-length (session_steps s input), all, after_commands s done left_over) (rest.held honest));
-            full = λ e. absurd (omega (arith, e));
-            cut = λ e. absurd (elim e [ inl two ↦ omega (arith, two) | inr eleven ↦ omega (arith, eleven) ]);
-            done = λ _. (refl, refl);
-          };
-    }
-told_finish (Err stop) h store reader a b c left now taken input reached end stopped is bound =
-    let known = consumed_known left now input reached.bytes is reached.consumed in
-    let none = nothing_left now known.0 known.1 end in
-    let count = reached.counted in
-    record {
-      taken = reached.bytes;
-      rest = known.0;
-      left_is = known.1;
-      input_is = known.2;
-      bound = omega (arith, count, bound);
-      done = λ e. absurd (not_done stop e);
-      long = λ e. absurd (not_long stop e);
-      short = λ e. omega (arith, count, bound);
-      unread = λ e. absurd (not_unread stop e);
-      replies = λ honest s stands.
-          let reaches = reached.moves s stands in
-          let done = reaches.advances.commands in
-          let left_over = commands_at reaches.to [] in
-          let all : commands_of input ≡ done ++ left_over = ap commands_of (known.2 ∙ ap (λ t. reached.bytes ++ t) none) ∙ reaches.advances.cut [] in
-          let state = reaches.advances.state in
-          let stops : StopsIn stop h (after_all s (steps s done)) (steps (after_all s (steps s done)) left_over) b c = rw state at (stopped reaches.to reaches.at) in
-          stopped_replies stop s input reached.bytes a c (rw all (stops_commands-behind stop h s done left_over a b c reaches.advances.adds stops honest));
-    }
+  -- files that no step up to this one names
+  pub others_more : ((n : ℕ) → (MayChange at.journal.generation (own_commit at.catalog state step) n → ⊥) → current b.history n ≡ current mid.history n)
+      → (n : ℕ) → (IsTheirs store.journal.generation (own_commits cat s (done ++ step ∷ [])) n → ⊥) → current b.history n ≡ current a.history n
+  others_more others n free =
+      others n (λ may. free (theirs_last n may)) ∙ takes.others n (λ is. free (theirs_first n is))
+    where
+      theirs_first : (n : ℕ) → IsTheirs store.journal.generation (own_commits cat s done) n → IsTheirs store.journal.generation (own_commits cat s (done ++ step ∷ [])) n
+      theirs_first n is = (is.0, subst (λ cs. IsOneOf cs is.0) (sym (one_commit cat s done step)) (one_of_left (own_commits cat s done) _ is.0 is.1), is.2)
 
--- ---- a store that wasn't opened
+      theirs_last : (n : ℕ) → MayChange at.journal.generation (own_commit at.catalog state step) n → IsTheirs store.journal.generation (own_commits cat s (done ++ step ∷ [])) n
+      theirs_last n may =
+          let here = theirs_by store.journal.generation (own_commit (catalog_after cat s done) state step) n
+          (subst (λ g. MayChange g (own_commit (catalog_after cat s done) state step) n) takes.generation (subst (λ own. MayChange at.journal.generation own n) own_is may)) in
+          (here.0, subst (λ cs. IsOneOf cs here.0) (sym (one_commit cat s done step)) (one_of_right (own_commits cat s done) _ here.0 here.1), here.2)
 
--- nothing was taken
-pub unopened_told : (status : ℕ) (h : Bool) (MayOpen : State → Type 0) (input : List ℕ) (left : Option (List ℕ)) (a b : List Event) → left ≡ Some input → status ≢ 0 → status ≢ 10 → status ≢ 11
-    → (IsTrue h → (s : State) → MayOpen s → (status ≢ 2) × Adds a b [] × Stands (current b) s × GrowsWithin (current a) (current b)) → Told status h MayOpen input left a b
-unopened_told status h MayOpen input left a b is zero ten long told = record {
-  taken = [];
-  rest = input;
-  left_is = is;
-  input_is = refl;
-  bound = omega arith;
-  done = λ e. absurd (zero e);
-  long = λ e. absurd (long e);
-  short = λ e. omega arith;
-  unread = λ e. refl;
-  replies = λ honest s may.
-      let is = told honest s may in
-      record {
-        k = 0;
-        fits = omega arith;
-        given = [];
-        replied = is.1;
-        within = record { front = begins_nothing (text s []); behind = λ some. absurd (omega arith) };
-        whole = λ _. refl;
-        held = inl is.2;
-        grows = is.3;
-        full = λ e. absurd (ten e);
-        cut = λ e. absurd (elim e [ inl two ↦ is.0 two | inr eleven ↦ long eleven ]);
-        done = λ e. absurd (zero e);
-      };
-}
+  -- what was read before the step reads the same behind it
+  pub none_before : ((n : ℕ) → (MayChange at.journal.generation (own_commit at.catalog state step) n → ⊥) → current b.history n ≡ current mid.history n) → NoneDamaged (current b.history) cat s done
+  none_before others =
+      none_moved (current mid.history) (current b.history) cat s done (below_of store commits a.history s takes.from)
+      (λ n lt. others (block_file n) (not_own at.journal.generation at.catalog state step n (subst (λ (c : Entered). n < c.next) (sym takes.catalog) lt))) takes.undamaged
+
+  none_more : ((n : ℕ) → (MayChange at.journal.generation (own_commit at.catalog state step) n → ⊥) → current b.history n ≡ current mid.history n)
+      → ((file place : ℕ) → IsStepDamage state.flow at.catalog (current mid.history) step file place → ⊥) → NoneDamaged (current b.history) cat s (done ++ step ∷ [])
+  none_more others none =
+      none_append (current b.history) cat s done (step ∷ []) (none_before others)
+      (subst (λ (c : Entered). NoneDamaged (current b.history) c state (step ∷ [])) takes.catalog
+      (none_one at.journal.generation at.catalog state step (current mid.history) (current b.history) (below_of at behind_commits mid.history state takes.stands) others none))
+
+  pub reads_more : b.read ≤ mid.read + read_size at.catalog step → b.read ≤ a.read + read_sizes cat s (done ++ step ∷ [])
+  reads_more reads =
+      let sizes = read_sizes-append cat s done (step ∷ []) in
+      let here : read_size at.catalog step ≡ read_size (catalog_after cat s done) step = ap (λ c. read_size c step) takes.catalog in
+      omega (arith, reads, takes.reads, sizes, here)
+
+  parts_more : (later : List Step) → later ≡ step ∷ more → (xs : List Step) → xs ≡ done ++ later → xs ≡ (done ++ step ∷ []) ++ more
+  parts_more later is xs parts = parts ∙ ap (λ l. done ++ l) is ∙ sym (append_assoc done (step ∷ []) more)
+
+  -- a call on a file failed
+  pub told_disk : (later : List Step) (input taken : List ℕ) → later ≡ step ∷ more → session_steps s input ≡ done ++ later → BrokeOff at behind_commits state step mid.history b.history → b.read ≤ mid.read + read_size at.catalog step
+      → SessionTold exit.DiskFault store.journal.generation commits cat s input taken a b
+  told_disk later input taken is parts broke reads = record {
+    done = done;
+    later = later;
+    parts = parts;
+    given = text s done;
+    replied = broke.silent ∙ takes.replied;
+    gives = refl;
+    kept = elim broke.left [
+      | inl same ↦ inl (kept_same same)
+      | inr next ↦ inr (
+        refl,
+        record {
+          step = step;
+          more = more;
+          next = is;
+          kept = kept_more (subst (λ own. IsKeptBy at.journal.generation (behind behind_commits own) at.catalog (catalog_behind at.catalog own) (current mid.history) (current b.history) (after state step)) (sym next.1) next.2);
+          room = room_more broke.room;
+        },
+      )
+    ];
+    settled = λ steady was. absurd steady;
+    undamaged = none_before broke.others;
+    room = takes.room;
+    others = λ n free. others_more broke.others n (λ theirs. free (subst (λ l. IsTheirs store.journal.generation (own_commits cat s (done ++ first l)) n) (sym is) theirs));
+    full = λ e. cc;
+    cut = λ e. elim e [ inl one ↦ absurd (not_read one) | inr two ↦ absurd (not_long two) ];
+    whole = λ e. absurd (not_done e);
+    reads = subst (λ l. b.read ≤ a.read + read_sizes cat s (done ++ first l)) (sym is) (reads_more reads);
+  }
+    where
+      not_read : exit.DiskFault ≡ exit.ReadFault → ⊥
+      not_read e = cc
+
+      not_long : exit.DiskFault ≡ exit.InputTooLong → ⊥
+      not_long e = cc
+
+      not_done : exit.DiskFault ≡ exit.Done → ⊥
+      not_done e = cc
+
+  -- the step's reply failed
+  pub told_reply : (later : List Step) (input taken : List ℕ) → later ≡ step ∷ more → session_steps s input ≡ done ++ later → HeldBack at behind_commits state step mid.history b.history → b.read ≤ mid.read + read_size at.catalog step
+      → SessionTold exit.ReplyFault store.journal.generation commits cat s input taken a b
+  told_reply later input taken is parts held reads = record {
+    done = done ++ step ∷ [];
+    later = more;
+    parts = parts_more later is (session_steps s input) parts;
+    given = text s done ++ held.given;
+    replied = held.replied ∙ ap (λ t. t ++ held.given) takes.replied ∙ append_assoc (replies a.history) (text s done) held.given;
+    gives = inl (record { before = done; step = step; last = refl; front = held.given; begins = held.front; is = refl });
+    kept = inl (kept_more held.kept);
+    settled = λ steady was. absurd steady;
+    undamaged = none_more held.others held.undamaged;
+    room = room_more held.room;
+    others = others_more held.others;
+    full = λ e. cc;
+    cut = λ e. elim e [ inl one ↦ absurd (not_read one) | inr two ↦ absurd (not_long two) ];
+    whole = λ e. absurd (not_done e);
+    reads = let here = reads_more reads in let most = more_reads cat s (done ++ step ∷ []) (first more) in omega (arith, here, most);
+  }
+    where
+      not_read : exit.ReplyFault ≡ exit.ReadFault → ⊥
+      not_read e = cc
+
+      not_long : exit.ReplyFault ≡ exit.InputTooLong → ⊥
+      not_long e = cc
+
+      not_done : exit.ReplyFault ≡ exit.Done → ⊥
+      not_done e = cc
+
+-- ---- behind steps that were taken, with files that read the same
+
+module _ (store at : Held) (commits : List Commit) (s : State) (done later : List Step) (a mid b : Seen) (takes : Takes store at commits s done a mid) (same : current b.history ≡ current mid.history) (still : (x : ℕ) (c : Entered) → IsSettled x c mid.history → IsSettled x c b.history) (most : b.read ≤ mid.read + read_sizes at.catalog (after_all s done) (first later)) where
+  kept_still : IsKeptBehind store.journal.generation commits store.catalog s done later done (current a.history) (current b.history)
+  kept_still = subst (λ (f : Files). IsKeptBehind store.journal.generation commits store.catalog s done later done (current a.history) f) (sym same) (kept_behind store at commits s done later a mid takes)
+
+  others_still : (n : ℕ) → (IsTheirs store.journal.generation (own_commits store.catalog s done) n → ⊥) → current b.history n ≡ current a.history n
+  others_still n free = ap (λ (f : Files). f n) same ∙ takes.others n free
+
+  settled_still : IsSettled store.journal.generation store.catalog a.history → IsSettled store.journal.generation (catalog_after store.catalog s done) b.history
+  settled_still was =
+      still store.journal.generation (catalog_after store.catalog s done)
+      (subst (λ g. IsSettled g (catalog_after store.catalog s done) mid.history) takes.generation (subst (λ (c : Entered). IsSettled at.journal.generation c mid.history) takes.catalog (takes.settled was)))
+
+  reads_still : b.read ≤ a.read + read_sizes store.catalog s (done ++ first later)
+  reads_still =
+      let sizes = read_sizes-append store.catalog s done (first later) in
+      let here : read_sizes at.catalog (after_all s done) (first later) ≡ read_sizes (catalog_after store.catalog s done) (after_all s done) (first later) = ap (λ c. read_sizes c (after_all s done) (first later)) takes.catalog in
+      omega (arith, most, takes.reads, sizes, here)
+
+  -- with this much replied, by a status that has no other part
+  pub told_still : (status : Status) (input taken given : List ℕ) → session_steps s input ≡ done ++ later → replies b.history ≡ replies a.history ++ given
+      → GivenBy store.journal.generation commits store.catalog s done later status (current b.history) given → reached status done later ≡ done
+      → (status ≡ exit.Full → FullNext store.journal.generation commits store.catalog s done later (current b.history))
+      → ((status ≡ exit.ReadFault) ⊎ (status ≡ exit.InputTooLong) → ⊥) → (status ≡ exit.Done → ⊥)
+      → SessionTold status store.journal.generation commits store.catalog s input taken a b
+  told_still status input taken given parts replied gives reach full cut whole = record {
+    done = done;
+    later = later;
+    parts = parts;
+    given = given;
+    replied = replied;
+    gives = gives;
+    kept = inl kept_still;
+    settled = λ steady was. settled_still was;
+    undamaged = subst (λ (f : Files). NoneDamaged f store.catalog s done) (sym same) takes.undamaged;
+    room = takes.room;
+    others = λ n free. others_still n (λ is. free (subst (λ zs. IsTheirs store.journal.generation (own_commits store.catalog s zs) n) (sym reach) is));
+    full = full;
+    cut = λ e. absurd (cut e);
+    whole = λ e. absurd (whole e);
+    reads = reads_still;
+  }
+
+  -- the next step found damage
+  damaged_next : (file place : ℕ) (step : Step) (more : List Step) → later ≡ step ∷ more → IsStepDamage (after_all s done).flow at.catalog (current mid.history) step file place
+      → DamagedNext store.journal.generation commits store.catalog s done later (current b.history) file place
+  damaged_next file place step more is damage = record {
+    step = step;
+    more = more;
+    next = is;
+    is = subst (λ (f : Files). IsStepDamage s.flow (catalog_after store.catalog s done) f step file place) (sym same)
+        (subst (λ (c : Entered). IsStepDamage s.flow c (current mid.history) step file place) takes.catalog
+        (subst (λ (f : Workflow). IsStepDamage f at.catalog (current mid.history) step file place) (flow_stays s done) damage));
+  }
+
+  pub told_damage : (input taken : List ℕ) (file place : ℕ) (step : Step) (more : List Step) → session_steps s input ≡ done ++ later → later ≡ step ∷ more
+      → IsStepDamage (after_all s done).flow at.catalog (current mid.history) step file place → replies b.history ≡ replies mid.history ++ line.damaged file place
+      → SessionTold exit.Damaged store.journal.generation commits store.catalog s input taken a b
+  told_damage input taken file place step more parts is damage replied =
+      told_still exit.Damaged input taken (text s done ++ line.damaged file place) parts
+      (replied ∙ ap (λ t. t ++ line.damaged file place) takes.replied ∙ append_assoc (replies a.history) (text s done) (line.damaged file place))
+      (record { file = file; at = place; damaged = damaged_next file place step more is damage; is = refl })
+      refl (λ e. cc) (λ e. elim e [ inl one ↦ cc | inr two ↦ cc ]) (λ e. cc)
+
+  pub told_broken_line : (input taken : List ℕ) (file place : ℕ) (step : Step) (more : List Step) → session_steps s input ≡ done ++ later → later ≡ step ∷ more
+      → IsStepDamage (after_all s done).flow at.catalog (current mid.history) step file place → (front : List ℕ) → Begins front (line.damaged file place) → replies b.history ≡ replies mid.history ++ front
+      → SessionTold exit.ReplyFault store.journal.generation commits store.catalog s input taken a b
+  told_broken_line input taken file place step more parts is damage front begins replied =
+      told_still exit.ReplyFault input taken (text s done ++ front) parts
+      (replied ∙ ap (λ t. t ++ front) takes.replied ∙ append_assoc (replies a.history) (text s done) front)
+      (inr (record { file = file; at = place; damaged = damaged_next file place step more is damage; front = front; begins = begins; is = refl }))
+      refl (λ e. cc) (λ e. elim e [ inl one ↦ cc | inr two ↦ cc ]) (λ e. cc)
+
+  pub told_memory : (input taken : List ℕ) → session_steps s input ≡ done ++ later → replies b.history ≡ replies mid.history → SessionTold exit.NoMemory store.journal.generation commits store.catalog s input taken a b
+  told_memory input taken parts replied =
+      told_still exit.NoMemory input taken (text s done) parts (replied ∙ takes.replied) refl
+      refl (λ e. cc) (λ e. elim e [ inl one ↦ cc | inr two ↦ cc ]) (λ e. cc)
+
+  pub told_full : (input taken : List ℕ) (step : Step) (more : List Step) (end : ℕ) → session_steps s input ≡ done ++ later → later ≡ step ∷ more → NoRoom at (after_all s done) step end → replies b.history ≡ replies mid.history
+      → SessionTold exit.Full store.journal.generation commits store.catalog s input taken a b
+  told_full input taken step more end parts is room replied =
+      told_still exit.Full input taken (text s done) parts (replied ∙ takes.replied) refl
+      refl (λ e. record {
+        step = step;
+        more = more;
+        next = is;
+        own = room.own;
+        is = ap (λ c. own_commit c (after_all s done) step) (sym takes.catalog) ∙ room.is;
+        end = at.journal.length;
+        long = subst (λ (f : Files). LogTo at.journal.length (map commit_bytes (commits ++ own_commits store.catalog s done)) (f (journal_file store.journal.generation))) (sym same)
+            (subst (λ g. LogTo at.journal.length (map commit_bytes (commits ++ own_commits store.catalog s done)) (current mid.history (journal_file g))) takes.generation takes.stands.long);
+        full = subst (λ (c : Entered). IsFull at.journal.length c room.own) takes.catalog room.full;
+      }) (λ e. elim e [ inl one ↦ cc | inr two ↦ cc ]) (λ e. cc)

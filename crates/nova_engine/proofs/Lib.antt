@@ -1,18 +1,22 @@
-mod Giving
-mod Fields
-mod Parts
-mod Empty
-mod Lengths
-mod Storing
-mod LoadLines
-mod Payloads
-mod Folding
-mod Taking
-mod CommandWords
-mod SessionLines
-mod CommandLines
-mod Moving
-mod OneStore
-mod Reached
-mod Ending
-mod Calling
+pub mod Empty
+pub mod LoadLines
+pub mod Verbs
+pub mod Turns
+pub mod Undamaged
+pub mod Takings
+pub mod Damage
+pub mod Replying
+pub mod ItemLines
+pub mod Moving
+pub mod Around
+pub mod SessionLines
+pub mod Reached
+pub mod Ending
+pub mod StopReasons
+pub mod Running
+pub mod Calls
+pub mod Texts
+pub mod Making
+pub mod Numbers
+pub mod LeftOut
+pub mod HasRoom

@@ -1,185 +1,295 @@
--- A session and one more line.
-use Rattle.std.proofs.Common.{◌≡◌, ℕ, ◌+◌, Bool, true, false, List, [], ◌∷◌, ◌++◌, Some, None, Result, Ok, Err, IfOk, codes, decimal, if◌then◌else◌, refl, sym, ap, ◌∙◌, subst}
-use Rattle.std.specs.Result.{MatchResult}
-use Rattle.std.specs.FinMap as fin
-use Rattle.nova_delta.specs.Merge.{TableValue, merge_of}
+-- A session's lines: what they do, by what they meet.
+use Rattle.std.proofs.Common.{◌≡◌, ℕ, ◌<◌, Bool, true, false, List, [], ◌∷◌, ◌++◌, length, Option, Some, None, Result, Ok, Err, if◌then◌else◌, refl, sym, ap, ◌∙◌, subst, arith}
+use Rattle.std.proofs.lemmas.List.{append-nil}
+use Rattle.std.specs.Bool.{IsTrue}
+use Rattle.std.specs.List.{list_any}
+use Rattle.nova_value.specs.declared.schema.Entry.{Entry}
 use Rattle.nova_outside.specs.History.{Event}
-use Rattle.nova_outside.specs.Replies.{Gives, GivesInPart}
-use Rattle.nova_raw_machine.specs.Lines.{words_of}
-use Rattle.nova_raw_machine.specs.Flow.{Flow, channel_in}
-use Rattle.nova_raw_machine.specs.State.{State, newest, newest_table}
-use Rattle.nova_raw_machine.specs.Steps.{Step, Show, Refused}
-use Rattle.nova_raw_machine.specs.Commands.{WithRows, begins_load, single, is_dot, not_built, steps}
-use Rattle.nova_raw_machine.specs.Replies.{text, reply_to, line_end, loaded_line, shown_line, row_lines}
+use Rattle.nova_commit.specs.declared.commit.Commit.{Commit}
+use Rattle.nova_script.specs.Forms.{command_of, is_dot, is_load, is_too_long}
+use Rattle.nova_script.specs.Session.{Alone, WithRows, Surroundings, alone, load_end, met_by}
+use Rattle.nova_script.specs.declared.command.Command.{Command}
+use Rattle.nova_script.specs.declared.context.Request.{Request}
+use Rattle.nova_script.specs.declared.context.Request.TheVariants as r
+use Rattle.nova_script.specs.declared.refusal.Refusal.{Refusal}
+use Rattle.nova_script.specs.declared.refusal.Refusal.TheVariants.{NotBuilt, UnfinishedLoad}
+use Rattle.nova_script.proofs.Fronts.{front_decides}
+use Rattle.nova_machine.specs.Workflow.{Workflow, is_input, schema_in}
+use Rattle.nova_machine.specs.State.{State}
+use Rattle.nova_machine.specs.Steps.{Step, Load, Refused as RefusedStep, Show, after_all}
+use Rattle.nova_machine.specs.Building.{built_met, built_only, built_steps, is_built}
+use Rattle.nova_machine.specs.Commands.{around, bad_row, load_steps, loaded_channel, loaded_steps, met_steps, read_rows, rows_for}
+use Rattle.nova_runner.specs.Around.{around_held}
+use Rattle.nova_runner.specs.Held.{Held}
+use Rattle.nova_runner.specs.Steps.{AsksLoad, AsksShow, StoreStands, Why, Memory}
 use Rattle.nova_engine.specs.declared.load.Pending.{Pending}
-use Rattle.nova_engine.specs.declared.load.Pending.TheVariants as pending
-use Rattle.nova_engine.specs.declared.rows.Rows.{Rows}
+use Rattle.nova_engine.specs.declared.load.Pending.TheVariants.{Refused, Rows}
+use Rattle.nova_engine.specs.declared.load.Rows.{Rows as KeptRows}
+use Rattle.nova_engine.specs.declared.reader.Session.{Session}
 use Rattle.nova_engine.specs.declared.stop.Stop.{Stop}
-use Rattle.nova_engine.specs.declared.kept.Store.{Store}
-use Rattle.nova_engine.specs.declared.words.CommandLine.TheVariants as line
-use Rattle.nova_engine.specs.Flow.{raw_flow}
-use Rattle.nova_engine.specs.declared.stop.Stop.TheVariants.{Reply}
-use Rattle.nova_engine.specs.Positions.{Loading, load_after, ended_by}
-use Rattle.nova_engine.specs.Steps.{StopsIn}
-use Rattle.nova_engine.proofs.Payloads.{payload_reads}
-use Rattle.nova_engine.specs.Standing.{StandsFor, StandsForLoad, BeginsLoad, TakesLine, Takes, LoadsFrom, LoadBreaks, ClosesLoad, BreaksLoad, MovesLine, BreaksLine}
-use Rattle.nova_engine.specs.Words.{line_of}
-use Rattle.nova_engine.proofs.CommandWords.{IsLineOf, line_is}
-use Rattle.nova_engine.proofs.Taking.{steps-load, steps-other_load, takes_reply, takes_nothing, stops_reply, takes_load, stops_load}
+use Rattle.nova_engine.specs.Loading.{BeginsLoad, FitsStore, KeepsSchema, HoldsLoad, HoldsPending, IsMet, Loading, TakesRow, with_row}
+use Rattle.nova_engine.specs.Positions.{IsFront, cut_off, ended_by, load_after}
+use Rattle.nova_engine.specs.Moves.{SessionStands, StopsLines, TakesLine, TakesLines}
+use Rattle.nova_engine.specs.Seen.{Seen}
+use Rattle.nova_engine.specs.Stopping.{why}
+use Rattle.nova_engine.specs.Taking.{Answers, AsksClose, AsksMet, AsksOne, AsksRefused, StopsAsked, StopsIn, Takes, TakesAsked}
+use Rattle.nova_engine.proofs.Around.{stands_around}
+use Rattle.nova_engine.proofs.LoadLines.{count_names}
+use Rattle.nova_engine.proofs.Takings.{stops_at_once, takes_nothing}
+use Rattle.nova_engine.proofs.Verbs.{blank_met}
 
--- the load's command makes this one step
-abbrev MakesStep : Pending → Bool → (State → Step) → Type 0
-MakesStep p is_ended x = (s : State) (load : Loading) → s.flow ≡ raw_flow → StandsForLoad p load → steps s (WithRows load.words load.rows is_ended ∷ []) ≡ x s ∷ []
+-- ---- what is asked in other words
 
--- a refusal of a load was replied, or broke off
-closes_refusal : (h : Bool) (store : Store) (p : Pending) (is_ended : Bool) (line : List ℕ) (a b : List Event) → MakesStep p is_ended (λ s. Refused line) → Gives h a b (line_end line) → ClosesLoad h store p is_ended store a b
-closes_refusal h store p is_ended line a b makes gives load is s stands =
-    takes_reply h s (Refused line) (steps s (WithRows load.words load.rows is_ended ∷ [])) store a b (makes s load stands.flow is) refl stands gives
+pub answers_by : (h : Bool) (asks other : State → List Step → Type 0) (store : Held) (a b : Seen) (r : Result Held Stop) → ((commits : List Commit) (s : State) (xs : List Step) → StoreStands store commits a.history s → other s xs → asks s xs) → Answers h asks store a b r → Answers h other store a b r
+answers_by h asks other store a b (Ok new) so answers = λ honest commits s xs stands is. answers honest commits s xs stands (so commits s xs stands is)
+answers_by h asks other store a b (Err stop) so answers = λ honest commits s xs stands is. answers honest commits s xs stands (so commits s xs stands is)
 
-breaks_refusal : (h : Bool) (store : Store) (p : Pending) (is_ended : Bool) (line : List ℕ) (a b : List Event) → MakesStep p is_ended (λ s. Refused line) → GivesInPart h a b (line_end line) → BreaksLoad Reply h store p is_ended a b
-breaks_refusal h store p is_ended line a b makes broke load is s stands =
-    stops_reply h s (Refused line) (steps s (WithRows load.words load.rows is_ended ∷ [])) store a b (makes s load stands.flow is) refl stands broke
+-- ---- a load that ends
 
--- refusals of a load
-makes_not_built : (is_ended : Bool) → MakesStep pending.NotBuilt is_ended (λ s. Refused (codes "no 90 not-built"))
-makes_not_built is_ended s load flow is = steps-other_load s load is_ended flow is
+by_end : (long is_ended : Bool) (met : Result Request Refusal) (bad : Option ℕ) (refusal : Refusal) → load_end long met bad true ≡ Err refusal → load_end long met bad is_ended ≡ Err refusal
+by_end true is_ended met bad refusal is = is
+by_end false is_ended (Err own) bad refusal is = is
+by_end false is_ended (Ok request) (Some line) refusal is = is
+by_end false is_ended (Ok request) None refusal is = absurd (cc)
 
-makes_bad_row : (n : ℕ) (is_ended : Bool) → MakesStep (pending.BadRow n) is_ended (λ s. Refused (codes "no 6 bad-row " ++ decimal n))
-makes_bad_row n is_ended s load flow is = steps-load s load is_ended (Err n) flow is.0 is.1
+-- the steps of a load whose line met this
+load_steps_by : (s : State) (line : List ℕ) (rows : List (List ℕ)) (met : Result Request Refusal) (is_ended : Bool) → built_met (around s) line ≡ Some met
+    → built_steps s (WithRows line rows is_ended ∷ []) ≡ load_steps s (Some met) rows is_ended
+load_steps_by s line rows met is_ended is = ap (λ o. load_steps s o rows is_ended ++ []) is ∙ append-nil (load_steps s (Some met) rows is_ended)
 
-makes_unfinished : (rows : Rows) → MakesStep (pending.Rows rows) false (λ s. Refused (codes "no 7 unfinished-load"))
-makes_unfinished rows s load flow is = let are = is.1 in steps-load s load false (Ok are.entries) flow is.0 are.read
+pub close_refused : (refusal : Refusal) (is_ended : Bool) (s : State) (xs : List Step) → AsksClose (Refused refusal) is_ended s xs → AsksOne (AsksRefused refusal) s xs
+close_refused refusal is_ended s xs asks =
+    let load = asks.0 in
+    let holds = asks.1 in
+    let channel = loaded_channel holds.met in
+    let read = rows_for s channel load.rows in
+    let ends = by_end (list_any is_too_long load.rows) is_ended holds.met (bad_row read) refusal holds.rows in
+    (RefusedStep refusal, asks.2 ∙ load_steps_by s load.line load.rows holds.met is_ended holds.is ∙ ap (λ e. loaded_steps channel read e) ends, refl)
 
-pub closes_not_built : (h : Bool) (store : Store) (is_ended : Bool) (a b : List Event) → Gives h a b (line_end (codes "no 90 not-built")) → ClosesLoad h store pending.NotBuilt is_ended store a b
-closes_not_built h store is_ended a b gives = closes_refusal h store pending.NotBuilt is_ended (codes "no 90 not-built") a b (makes_not_built is_ended) gives
+-- the rows of a load are entries
+module _ (rows : KeptRows) (s : State) (load : Loading) (holds : HoldsLoad s (Rows rows) load) where
+  abbrev request : Result Request Refusal
+  request = Ok (r.Load rows.channel)
 
-pub breaks_not_built : (h : Bool) (store : Store) (is_ended : Bool) (a b : List Event) → GivesInPart h a b (line_end (codes "no 90 not-built")) → BreaksLoad Reply h store pending.NotBuilt is_ended a b
-breaks_not_built h store is_ended a b broke = breaks_refusal h store pending.NotBuilt is_ended (codes "no 90 not-built") a b (makes_not_built is_ended) broke
+  read_is : read_rows (schema_in s.flow rows.channel) 1 load.rows ≡ Ok holds.rows.are.entries
+  read_is = holds.rows.are.read
 
-pub closes_bad_row : (h : Bool) (store : Store) (n : ℕ) (is_ended : Bool) (a b : List Event) → Gives h a b (line_end (codes "no 6 bad-row " ++ decimal n)) → ClosesLoad h store (pending.BadRow n) is_ended store a b
-closes_bad_row h store n is_ended a b gives = closes_refusal h store (pending.BadRow n) is_ended (codes "no 6 bad-row " ++ decimal n) a b (makes_bad_row n is_ended) gives
+  steps_are : (is_ended : Bool) → built_steps s (WithRows load.line load.rows is_ended ∷ [])
+      ≡ loaded_steps (Some rows.channel) (Ok holds.rows.are.entries) (load_end false request None is_ended)
+  steps_are is_ended =
+      load_steps_by s load.line load.rows holds.met is_ended holds.is
+      ∙ ap (λ m. load_steps s (Some m) load.rows is_ended) holds.rows.asks
+      ∙ ap (λ b. loaded_steps (Some rows.channel) (read_rows (schema_in s.flow rows.channel) 1 load.rows) (load_end b request (bad_row (read_rows (schema_in s.flow rows.channel) 1 load.rows)) is_ended)) holds.rows.are.short
+      ∙ ap (λ (x : Result (List Entry) ℕ). loaded_steps (Some rows.channel) x (load_end false request (bad_row x) is_ended)) read_is
 
-pub breaks_bad_row : (h : Bool) (store : Store) (n : ℕ) (is_ended : Bool) (a b : List Event) → GivesInPart h a b (line_end (codes "no 6 bad-row " ++ decimal n)) → BreaksLoad Reply h store (pending.BadRow n) is_ended a b
-breaks_bad_row h store n is_ended a b broke = breaks_refusal h store (pending.BadRow n) is_ended (codes "no 6 bad-row " ++ decimal n) a b (makes_bad_row n is_ended) broke
+pub close_rows : (rows : KeptRows) (s : State) (xs : List Step) → AsksClose (Rows rows) true s xs → AsksOne (AsksLoad rows.channel rows.delta) s xs
+close_rows rows s xs asks =
+    let holds = asks.1 in
+    let are = holds.rows.are in
+    (Load rows.channel are.entries, asks.2 ∙ steps_are rows s asks.0 holds true, (are.entries, refl, are.made, (holds.rows.in_range, holds.rows.input, are.fit)))
 
-pub closes_unfinished : (h : Bool) (store : Store) (rows : Rows) (a b : List Event) → Gives h a b (line_end (codes "no 7 unfinished-load")) → ClosesLoad h store (pending.Rows rows) false store a b
-closes_unfinished h store rows a b gives = closes_refusal h store (pending.Rows rows) false (codes "no 7 unfinished-load") a b (makes_unfinished rows) gives
+pub close_cut : (rows : KeptRows) (s : State) (xs : List Step) → AsksClose (Rows rows) false s xs → AsksOne (AsksRefused UnfinishedLoad) s xs
+close_cut rows s xs asks = (RefusedStep UnfinishedLoad, asks.2 ∙ steps_are rows s asks.0 asks.1 false, refl)
 
-pub breaks_unfinished : (h : Bool) (store : Store) (rows : Rows) (a b : List Event) → GivesInPart h a b (line_end (codes "no 7 unfinished-load")) → BreaksLoad Reply h store (pending.Rows rows) false a b
-breaks_unfinished h store rows a b broke = breaks_refusal h store (pending.Rows rows) false (codes "no 7 unfinished-load") a b (makes_unfinished rows) broke
+-- ---- a command without rows
 
--- the reply to a load of the one channel
-reply_loaded : (h : Bool) (store : Store) (a : List Event) (s : State) → StandsFor h store a s → loaded_line (codes "raw") (store.version + 1) ≡ loaded_line (channel_in s.flow 0).name (newest s 0 + 1)
-reply_loaded h store a s stands =
-    ap (λ (f : Flow). loaded_line (channel_in f 0).name (store.version + 1)) (sym stands.flow)
-    ∙ ap (λ n. loaded_line (channel_in s.flow 0).name (n + 1)) (sym stands.version)
+pub met_refused : (refusal : Refusal) (s : State) (xs : List Step) → AsksMet (Err refusal) s xs → AsksOne (AsksRefused refusal) s xs
+met_refused refusal s xs asks = (RefusedStep refusal, asks, refl)
 
--- a load that was merged and kept, or stopped
-pub closes_loaded : (h : Bool) (r : Result Store Stop) (old : Store) (rows : Rows) (a b : List Event)
-    → IfOk r (λ new. new.table ≡ merge_of old.table rows.delta) → IfOk r (λ new. new.version ≡ old.version + 1)
-    → MatchResult r (λ new. LoadsFrom h old new rows.payload.items a b (loaded_line (codes "raw") (old.version + 1))) (λ stop. LoadBreaks stop h old rows.payload.items a b (loaded_line (codes "raw") (old.version + 1)))
-    → MatchResult r (λ new. ClosesLoad h old (pending.Rows rows) true new a b) (λ stop. BreaksLoad stop h old (pending.Rows rows) true a b)
-closes_loaded h (Ok new) old rows a b table version loads = λ load is s stands.
-    let are = is.1 in
-    takes_load h old new rows.payload.items s are.entries rows.delta (steps s (WithRows load.words load.rows true ∷ [])) a b (steps-load s load true (Ok are.entries) stands.flow is.0 are.read) stands are.made
-    (payload_reads load.rows rows.payload.items are.entries are.clean are.read are.spelled) table version (rw (← reply_loaded h old a s stands) loads)
-closes_loaded h (Err stop) old rows a b table version breaks = λ load is s stands.
-    let are = is.1 in
-    stops_load stop h old rows.payload.items s are.entries (steps s (WithRows load.words load.rows true ∷ [])) a b (steps-load s load true (Ok are.entries) stands.flow is.0 are.read) stands
-    (payload_reads load.rows rows.payload.items are.entries are.clean are.read are.spelled) (rw (← reply_loaded h old a s stands) breaks)
+pub met_shown : (c : ℕ) (store : Held) (commits : List Commit) (h : List Event) (s : State) (xs : List Step) → IsMet (around_held store) (Ok (r.Show c)) → StoreStands store commits h s → AsksMet (Ok (r.Show c)) s xs → AsksOne (AsksShow c) s xs
+met_shown c store commits h s xs range stands asks =
+    let long = count_names store.flow in
+    let below : c < length store.flow.channels = omega (arith, range, long) in
+    (Show c, asks, (refl, subst (λ (f : Workflow). c < length f.channels) stands.flow below))
 
--- the reply to a show of the one channel
-reply_shown : (h : Bool) (store : Store) (a : List Event) (s : State) → StandsFor h store a s → row_lines store.table ++ shown_line (codes "raw") store.version (fin.len store.table.rows) ≡ reply_to s (Show 0)
-reply_shown h store a s stands =
-    ap (λ (t : TableValue). row_lines t ++ shown_line (codes "raw") store.version (fin.len t.rows)) (sym stands.table)
-    ∙ ap (λ n. row_lines (newest_table s 0) ++ shown_line (codes "raw") n (fin.len (newest_table s 0).rows)) (sym stands.version)
-    ∙ ap (λ (f : Flow). row_lines (newest_table s 0) ++ shown_line (channel_in f 0).name (newest s 0) (fin.len (newest_table s 0).rows)) (sym stands.flow)
+-- ---- a line that no load takes
 
--- a line that no load takes ends the commands of its words
-ended_single : (text : List ℕ) (s : State) (xs : List Step) → begins_load (words_of text) ≡ false → steps s (single (words_of text)) ≡ xs → steps s (ended_by None text) ≡ xs
-ended_single text s xs is_load is = ap (λ (b : Bool). steps s (if b then [] else single (words_of text))) is_load ∙ is
+-- what is held of a line meets what the line does
+front_met : (x : Surroundings) (held line : List ℕ) → IsFront held line → built_met x held ≡ built_met x line
+front_met x held line front = ap (built_met x) front.is ∙ ap (λ res. met_by x (built_only res)) (front_decides.command front.count line front.enough)
 
-load_none : (text : List ℕ) → begins_load (words_of text) ≡ false → load_after None text ≡ None
-load_none text is_load = ap (λ (b : Bool). if b then Some (let load : Loading = record { words = words_of text; rows = [] } in load) else None) is_load
+front_load : (held line : List ℕ) → IsFront held line → is_load held ≡ is_load line
+front_load held line front = ap is_load front.is ∙ front_decides.load front.count line front.enough
 
-moves_to_none : (h : Bool) (old new : Store) (a b : List Event) (text : List ℕ) → begins_load (words_of text) ≡ false
-    → ((s : State) → StandsFor h old a s → Takes h s (steps s (ended_by None text)) new a b)
-    → MovesLine h (record { store = old; load = None }) (record { store = new; load = None }) a b text
-moves_to_none h old new a b text is_load takes None is = record { takes = takes; pending = rw (load_none text is_load) tt }
-moves_to_none h old new a b text is_load takes (Some load) is = absurd is
+front_dot : (held line : List ℕ) → IsFront held line → is_dot held ≡ is_dot line
+front_dot held line front = ap is_dot front.is ∙ front_decides.dot front.count line front.enough
 
-breaks_from_none : (stop : Stop) (h : Bool) (old : Store) (a b : List Event) (text : List ℕ)
-    → ((s : State) → StandsFor h old a s → StopsIn stop h s (steps s (ended_by None text)) a b) → BreaksLine stop h (record { store = old; load = None }) a b text
-breaks_from_none stop h old a b text stops None is = stops
-breaks_from_none stop h old a b text stops (Some load) is = absurd is
+blank_alone : (x : Surroundings) (line : List ℕ) (res : Result (Option Command) Refusal) → met_by x (built_only res) ≡ None → alone line res ≡ []
+blank_alone x line (Ok None) is = refl
+blank_alone x line (Ok (Some command)) is = none (is_built command) is
+  where
+    none : (b : Bool) → met_by x (if b then Ok (Some command) else Err NotBuilt) ≡ None → alone line (Ok (Some command)) ≡ []
+    none true is = absurd (cc)
+    none false is = absurd (cc)
+blank_alone x line (Err refusal) is = absurd (cc)
 
-pub moves_blank : (h : Bool) (store : Store) (a : List Event) (text : List ℕ) → line.Blank ≡ line_of (words_of text) → MovesLine h (record { store = store; load = None }) (record { store = store; load = None }) a a text
-moves_blank h store a text is =
-    let words : words_of text ≡ [] = subst (λ k. IsLineOf k (words_of text)) (sym is) (line_is (words_of text)) in
-    let none : begins_load (words_of text) ≡ false = ap begins_load words in
-    moves_to_none h store store a a text none
-    (λ s stands. takes_nothing h s (steps s (ended_by None text)) store a (ended_single text s [] none (ap (λ (ws : List (List ℕ)). steps s (single ws)) words)) stands)
+some_alone : (x : Surroundings) (line : List ℕ) (res : Result (Option Command) Refusal) (met : Result Request Refusal) → met_by x (built_only res) ≡ Some met → alone line res ≡ Alone line ∷ []
+some_alone x line (Ok None) met is = absurd (cc)
+some_alone x line (Ok (Some command)) met is = refl
+some_alone x line (Err refusal) met is = refl
 
-pub moves_load : (h : Bool) (store : Store) (p : Pending) (a : List Event) (text : List ℕ) (is_raw : Bool) → line.Load is_raw ≡ line_of (words_of text) → BeginsLoad is_raw p
-    → MovesLine h (record { store = store; load = None }) (record { store = store; load = Some p }) a a text
-moves_load h store p a text is_raw is begins None none =
-    let facts : IsLineOf (line.Load is_raw) (words_of text) = subst (λ k. IsLineOf k (words_of text)) (sym is) (line_is (words_of text)) in
-    let begun : Loading = record { words = words_of text; rows = [] } in
-    let load : load_after None text ≡ Some begun = ap (λ (b : Bool). if b then Some begun else None) facts.0 in
-    record {
-      takes = λ s stands. takes_nothing h s (steps s (ended_by None text)) store a (ap (λ (b : Bool). steps s (if b then [] else single (words_of text))) facts.0) stands;
-      pending = rw load (begins (words_of text) facts.1);
-    }
-moves_load h store p a text is_raw is begins (Some load) none = absurd none
+ended_no_load : (line : List ℕ) → is_load line ≡ false → ended_by None line ≡ alone line (command_of line)
+ended_no_load line other = ap (λ (b : Bool). if b then [] else alone line (command_of line)) other
 
-pub moves_other : (h : Bool) (store : Store) (a b : List Event) (text : List ℕ) → line.Other ≡ line_of (words_of text) → Gives h a b (line_end (codes "no 90 not-built"))
-    → MovesLine h (record { store = store; load = None }) (record { store = store; load = None }) a b text
-moves_other h store a b text is gives =
-    let facts : IsLineOf line.Other (words_of text) = subst (λ k. IsLineOf k (words_of text)) (sym is) (line_is (words_of text)) in
-    moves_to_none h store store a b text facts.0
-    (λ s stands. takes_reply h s (Refused (codes "no 90 not-built")) (steps s (ended_by None text)) store a b (ended_single text s not_built facts.0 (facts.1 s stands.flow)) refl stands gives)
+after_no_load : (line : List ℕ) → is_load line ≡ false → load_after None line ≡ None
+after_no_load line other = ap (λ (b : Bool). if b then Some (let load : Loading = record { line = line; rows = [] } in load) else None) other
 
-pub breaks_other : (h : Bool) (store : Store) (a b : List Event) (text : List ℕ) → line.Other ≡ line_of (words_of text) → GivesInPart h a b (line_end (codes "no 90 not-built"))
-    → BreaksLine Reply h (record { store = store; load = None }) a b text
-breaks_other h store a b text is broke =
-    let facts : IsLineOf line.Other (words_of text) = subst (λ k. IsLineOf k (words_of text)) (sym is) (line_is (words_of text)) in
-    breaks_from_none Reply h store a b text
-    (λ s stands. stops_reply h s (Refused (codes "no 90 not-built")) (steps s (ended_by None text)) store a b (ended_single text s not_built facts.0 (facts.1 s stands.flow)) refl stands broke)
+-- the steps of a line that is no load and meets something
+alone_steps : (s : State) (line : List ℕ) (met : Result Request Refusal) → is_load line ≡ false → built_met (around s) line ≡ Some met → built_steps s (ended_by None line) ≡ met_steps s (Some met)
+alone_steps s line met other is =
+    ap (built_steps s) (ended_no_load line other ∙ some_alone (around s) line (command_of line) met is)
+    ∙ ap (λ o. met_steps s o ++ []) is ∙ append-nil (met_steps s (Some met))
 
-pub moves_show : (h : Bool) (store : Store) (a b : List Event) (text : List ℕ) → line.ShowRaw ≡ line_of (words_of text)
-    → Gives h a b (row_lines store.table ++ shown_line (codes "raw") store.version (fin.len store.table.rows))
-    → MovesLine h (record { store = store; load = None }) (record { store = store; load = None }) a b text
-moves_show h store a b text is gives =
-    let facts : IsLineOf line.ShowRaw (words_of text) = subst (λ k. IsLineOf k (words_of text)) (sym is) (line_is (words_of text)) in
-    moves_to_none h store store a b text facts.0
-    (λ s stands. takes_reply h s (Show 0) (steps s (ended_by None text)) store a b (ended_single text s (Show 0 ∷ []) facts.0 (facts.1 s stands.flow)) refl stands
-    (rw (← reply_shown h store a s stands) gives))
+blank_steps : (s : State) (line : List ℕ) → is_load line ≡ false → built_met (around s) line ≡ None → built_steps s (ended_by None line) ≡ []
+blank_steps s line other is = ap (built_steps s) (ended_no_load line other ∙ blank_alone (around s) line (command_of line) is)
 
-pub breaks_show : (h : Bool) (store : Store) (a b : List Event) (text : List ℕ) → line.ShowRaw ≡ line_of (words_of text)
-    → GivesInPart h a b (row_lines store.table ++ shown_line (codes "raw") store.version (fin.len store.table.rows)) → BreaksLine Reply h (record { store = store; load = None }) a b text
-breaks_show h store a b text is broke =
-    let facts : IsLineOf line.ShowRaw (words_of text) = subst (λ k. IsLineOf k (words_of text)) (sym is) (line_is (words_of text)) in
-    breaks_from_none Reply h store a b text
-    (λ s stands. stops_reply h s (Show 0) (steps s (ended_by None text)) store a b (ended_single text s (Show 0 ∷ []) facts.0 (facts.1 s stands.flow)) refl stands (rw (← reply_shown h store a s stands) broke))
+load_line_steps : (s : State) (line : List ℕ) → is_load line ≡ true → built_steps s (ended_by None line) ≡ []
+load_line_steps s line is = ap (λ (b : Bool). built_steps s (if b then [] else alone line (command_of line))) is
 
--- a line that a load takes
-pub moves_dot : (h : Bool) (old new : Store) (p : Pending) (a b : List Event) (text : List ℕ) → is_dot text ≡ true → ClosesLoad h old p true new a b
-    → MovesLine h (record { store = old; load = Some p }) (record { store = new; load = None }) a b text
-moves_dot h old new p a b text dot closes None is = absurd is
-moves_dot h old new p a b text dot closes (Some load) is = record {
-  takes = λ s stands. rw dot (closes load is s stands);
-  pending = rw dot tt;
-}
+-- what is held of it meets, of the store, what the line does in the state
+line_met : (store : Held) (commits : List Commit) (h : List Event) (s : State) (held line : List ℕ) → StoreStands store commits h s → IsFront held line → built_met (around_held store) held ≡ built_met (around s) line
+line_met store commits h s held line stands front = ap (λ x. built_met x held) (stands_around store commits h s stands) ∙ front_met (around s) held line front
 
-pub breaks_dot : (stop : Stop) (h : Bool) (old : Store) (p : Pending) (a b : List Event) (text : List ℕ) → is_dot text ≡ true → BreaksLoad stop h old p true a b
-    → BreaksLine stop h (record { store = old; load = Some p }) a b text
-breaks_dot stop h old p a b text dot breaks None is = absurd is
-breaks_dot stop h old p a b text dot breaks (Some load) is = λ s stands. rw dot (breaks load is s stands)
+module _ (h : Bool) (store : Held) (held : List ℕ) where
+  no_load : (s : State) (load : Option Loading) → HoldsPending s None load → load ≡ None
+  no_load s None is = refl
+  no_load s (Some l) is = absurd is
 
-pub moves_row : (h : Bool) (store : Store) (old new : Pending) (a : List Event) (text : List ℕ) → is_dot text ≡ false → TakesLine old new text
-    → MovesLine h (record { store = store; load = Some old }) (record { store = store; load = Some new }) a a text
-moves_row h store old new a text dot takes None is = absurd is
-moves_row h store old new a text dot takes (Some load) is = record {
-  takes = λ s stands. rw dot (takes_nothing h s [] store a refl stands);
-  pending = rw dot (takes load is);
-}
+  -- the session behind it has no load
+  taken : (new : Session) (commits : List Commit) (s : State) (load : Option Loading) (line : List ℕ) (a b : Seen) → HoldsPending s None load → new.load ≡ None → is_load line ≡ false
+      → Takes store new.store commits s (built_steps s (ended_by None line)) a b → TakesLine store new commits s load line a b
+  taken new commits s load line a b pending none other takes =
+      let is = no_load s load pending in
+      subst (λ l. TakesLine store new commits s l line a b) (sym is) (record {
+        takes = takes;
+        pending = subst (λ (p : Option Pending). HoldsPending (after_all s (built_steps s (ended_by None line))) p (load_after None line)) (sym none)
+            (subst (λ l. HoldsPending (after_all s (built_steps s (ended_by None line))) None l) (sym (after_no_load line other)) tt);
+      })
+
+  pub takes_blank : (new : Session) (a : Seen) → new.store ≡ store → new.load ≡ None → built_met (around_held store) held ≡ None → TakesLines h store None new held a a
+  takes_blank new a same none is honest commits s load line stands front =
+      let met = sym (line_met store commits a.history s held line stands.stands front) ∙ is in
+      let other = blank_met (around s) line met in
+      taken new commits s load line a a stands.pending none other
+      (subst (λ st. Takes store st commits s (built_steps s (ended_by None line)) a a) (sym same)
+      (subst (λ xs. Takes store store commits s xs a a) (sym (blank_steps s line other met)) (takes_nothing store commits s a stands.stands)))
+
+  pub takes_load_line : (new : Session) (pending : Pending) (met : Result Request Refusal) (a : Seen) → new.store ≡ store → new.load ≡ Some pending → is_load held ≡ true → built_met (around_held store) held ≡ Some met
+      → BeginsLoad store met pending → TakesLines h store None new held a a
+  takes_load_line new pending met a same load_is begins is starts honest commits s load line stands front =
+      let here = sym (line_met store commits a.history s held line stands.stands front) ∙ is in
+      let own : is_load line ≡ true = sym (front_load held line front) ∙ begins in
+      let begun : Loading = record { line = line; rows = [] } in
+      let rows = starts s stands.stands.flow (stands_around store commits a.history s stands.stands) in
+      let holds : HoldsLoad s pending begun = record { met = met; is = here; rows = rows } in
+      let steps = load_line_steps s line own in
+      let none = no_load s load stands.pending in
+      subst (λ l. TakesLine store new commits s l line a a) (sym none) (record {
+        takes = subst (λ st. Takes store st commits s (built_steps s (ended_by None line)) a a) (sym same)
+            (subst (λ xs. Takes store store commits s xs a a) (sym steps) (takes_nothing store commits s a stands.stands));
+        pending = subst (λ (p : Option Pending). HoldsPending (after_all s (built_steps s (ended_by None line))) p (load_after None line)) (sym load_is)
+            (subst (λ l. HoldsPending (after_all s (built_steps s (ended_by None line))) (Some pending) l) (sym (ap (λ (b : Bool). if b then Some begun else None) own))
+            (subst (λ xs. HoldsLoad (after_all s xs) pending begun) (sym steps) holds));
+      })
+
+  pub takes_alone : (new : Session) (met : Result Request Refusal) (a b : Seen) → new.load ≡ None → is_load held ≡ false → built_met (around_held store) held ≡ Some met
+      → TakesAsked h (AsksMet met) store new.store a b → TakesLines h store None new held a b
+  takes_alone new met a b none other is takes honest commits s load line stands front =
+      let here = sym (line_met store commits a.history s held line stands.stands front) ∙ is in
+      let own : is_load line ≡ false = sym (front_load held line front) ∙ other in
+      taken new commits s load line a b stands.pending none own (takes honest commits s _ stands.stands (alone_steps s line met own here))
+
+  pub stops_alone : (why : Why) (met : Result Request Refusal) (a b : Seen) → is_load held ≡ false → built_met (around_held store) held ≡ Some met
+      → StopsAsked why h (AsksMet met) store a b → StopsLines why h store None held a b
+  stops_alone why met a b other is stops honest commits s load line stands front =
+      let here = sym (line_met store commits a.history s held line stands.stands front) ∙ is in
+      let own : is_load line ≡ false = sym (front_load held line front) ∙ other in
+      let none = no_load s load stands.pending in
+      subst (λ l. StopsIn why store commits s (built_steps s (ended_by l line)) a b) (sym none) (stops honest commits s _ stands.stands (alone_steps s line met own here))
+
+-- without memory nothing was done
+pub stops_line : (h : Bool) (store : Held) (pending : Option Pending) (held : List ℕ) (a : Seen) → StopsLines Memory h store pending held a a
+stops_line h store pending held a honest commits s load line stands front = stops_at_once store commits s (built_steps s (ended_by load line)) a stands.stands
+
+-- ---- a line that a load takes
+
+module _ (h : Bool) (store : Held) (pending : Pending) (held : List ℕ) where
+  some_load : (s : State) (load : Option Loading) → HoldsPending s (Some pending) load → (l : Loading) × (load ≡ Some l) × HoldsLoad s pending l
+  some_load s None none = absurd none
+  some_load s (Some l) holds = (l, refl, holds)
+
+  pub takes_dot : (new : Session) (a b : Seen) → new.load ≡ None → is_dot held ≡ true → TakesAsked h (AsksClose pending true) store new.store a b → TakesLines h store (Some pending) new held a b
+  takes_dot new a b none dot takes honest commits s load line stands front =
+      let own : is_dot line ≡ true = sym (front_dot held line front) ∙ dot in
+      let l = some_load s load stands.pending in
+      let steps : built_steps s (ended_by (Some l.0) line) ≡ built_steps s (WithRows l.0.line l.0.rows true ∷ []) = ap (λ (b : Bool). built_steps s (if b then WithRows l.0.line l.0.rows true ∷ [] else [])) own in
+      let after : load_after (Some l.0) line ≡ None = ap (λ (b : Bool). if b then None else Some (with_row l.0 line)) own in
+      subst (λ x. TakesLine store new commits s x line a b) (sym l.1) (record {
+        takes = takes honest commits s _ stands.stands (l.0, l.2, steps);
+        pending = subst (λ (p : Option Pending). HoldsPending (after_all s (built_steps s (ended_by (Some l.0) line))) p (load_after (Some l.0) line)) (sym none)
+            (subst (λ x. HoldsPending (after_all s (built_steps s (ended_by (Some l.0) line))) None x) (sym after) tt);
+      })
+
+  pub stops_dot : (why : Why) (a b : Seen) → is_dot held ≡ true → StopsAsked why h (AsksClose pending true) store a b → StopsLines why h store (Some pending) held a b
+  stops_dot why a b dot stops honest commits s load line stands front =
+      let own : is_dot line ≡ true = sym (front_dot held line front) ∙ dot in
+      let l = some_load s load stands.pending in
+      let steps : built_steps s (ended_by (Some l.0) line) ≡ built_steps s (WithRows l.0.line l.0.rows true ∷ []) = ap (λ (b : Bool). built_steps s (if b then WithRows l.0.line l.0.rows true ∷ [] else [])) own in
+      subst (λ x. StopsIn why store commits s (built_steps s (ended_by x line)) a b) (sym l.1) (stops honest commits s _ stands.stands (l.0, l.2, steps))
+
+  pub takes_row_line : (new : Session) (next : Pending) (a : Seen) → new.store ≡ store → new.load ≡ Some next → is_dot held ≡ false → ((l : List ℕ) → IsFront held l → TakesRow pending next l) → TakesLines h store (Some pending) new held a a
+  takes_row_line new next a same load_is dot row honest commits s load line stands front =
+      let own : is_dot line ≡ false = sym (front_dot held line front) ∙ dot in
+      let l = some_load s load stands.pending in
+      let steps : built_steps s (ended_by (Some l.0) line) ≡ [] = ap (λ (b : Bool). built_steps s (if b then WithRows l.0.line l.0.rows true ∷ [] else [])) own in
+      let after : load_after (Some l.0) line ≡ Some (with_row l.0 line) = ap (λ (b : Bool). if b then None else Some (with_row l.0 line)) own in
+      let holds : HoldsLoad s next (with_row l.0 line) = record { met = l.2.met; is = l.2.is; rows = row line front s l.2.met l.0.rows l.2.rows } in
+      subst (λ x. TakesLine store new commits s x line a a) (sym l.1) (record {
+        takes = subst (λ st. Takes store st commits s (built_steps s (ended_by (Some l.0) line)) a a) (sym same)
+            (subst (λ xs. Takes store store commits s xs a a) (sym steps) (takes_nothing store commits s a stands.stands));
+        pending = subst (λ (p : Option Pending). HoldsPending (after_all s (built_steps s (ended_by (Some l.0) line))) p (load_after (Some l.0) line)) (sym load_is)
+            (subst (λ x. HoldsPending (after_all s (built_steps s (ended_by (Some l.0) line))) (Some next) x) (sym after)
+            (subst (λ xs. HoldsLoad (after_all s xs) next (with_row l.0 line)) (sym steps) holds));
+      })
+
+  -- ---- a load that the input cut off
+
+  pub stops_cut : (why : Why) (a b : Seen) → StopsAsked why h (AsksClose pending false) store a b → IsTrue h → (commits : List Commit) (s : State) (load : Option Loading) → SessionStands store (Some pending) commits a.history s load
+      → StopsIn why store commits s (built_steps s (cut_off load)) a b
+  stops_cut why a b stops honest commits s load stands =
+      let l = some_load s load stands.pending in
+      subst (λ x. StopsIn why store commits s (built_steps s (cut_off x)) a b) (sym l.1) (stops honest commits s _ stands.stands (l.0, l.2, refl))
+
+  pub takes_cut : (new : Held) (a b : Seen) → TakesAsked h (AsksClose pending false) store new a b → IsTrue h → (commits : List Commit) (s : State) (load : Option Loading) → SessionStands store (Some pending) commits a.history s load
+      → (after : Held) × Takes store after commits s (built_steps s (cut_off load)) a b
+  takes_cut new a b takes honest commits s load stands =
+      let l = some_load s load stands.pending in
+      (new, subst (λ x. Takes store new commits s (built_steps s (cut_off x)) a b) (sym l.1) (takes honest commits s _ stands.stands (l.0, l.2, refl)))
+
+-- no load is left
+pub takes_end : (h : Bool) (store : Held) (a : Seen) → IsTrue h → (commits : List Commit) (s : State) (load : Option Loading) → SessionStands store None commits a.history s load
+    → (after : Held) × Takes store after commits s (built_steps s (cut_off load)) a a
+takes_end h store a honest commits s load stands =
+    let none = no_load h store [] s load stands.pending in
+    (store, subst (λ x. Takes store store commits s (built_steps s (cut_off x)) a a) (sym none) (takes_nothing store commits s a stands.stands))
+
+-- a load's rows stay those of the store
+pub fits_kept : (store : Held) (old new : Pending) → FitsStore store (Some old) → KeepsSchema old new → FitsStore store (Some new)
+fits_kept store old (Refused refusal) fits keeps rows is = absurd (no_rows refusal rows is)
+  where
+    no_rows : (refusal : Refusal) (rows : KeptRows) → Some (Refused refusal) ≡ Some (Rows rows) → ⊥
+    no_rows refusal rows e = cc
+fits_kept store (Refused refusal) (Rows new) fits keeps rows is = absurd keeps
+fits_kept store (Rows old) (Rows new) fits keeps rows is =
+    let same : new ≡ rows = cc in
+    let own = fits old refl in
+    let channel : rows.channel ≡ old.channel = ap (λ (x : KeptRows). x.channel) (sym same) ∙ keeps.0 in (
+      subst (λ n. n < length store.flow.channels) (sym channel) own.0,
+      ap (λ (x : KeptRows). x.delta.schema) (sym same) ∙ keeps.1 ∙ own.1 ∙ ap (λ n. schema_in store.flow n) (sym channel),
+      ap (λ n. is_input store.flow n) channel ∙ own.2,
+    )
+
+-- what is no load is none
+pub none_of : (load : Option Pending) → ((pending : Pending) → load ≡ Some pending → ⊥) → load ≡ None
+none_of None other = refl
+none_of (Some pending) other = absurd (other pending refl)

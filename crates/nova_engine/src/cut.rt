@@ -1,7 +1,7 @@
 //! Bytes, cut into lines.
 ghost use Rattle.std.specs.Prelude.{◌≡◌, ◌≢◌, ◌<◌, ◌≤◌, ℕ, length, slice_index, MatchOption, false};
 ghost use Rattle.nova_value.specs.Text.{has_newline};
-ghost use Rattle.nova_engine.specs.Moves.{IsNextLine};
+ghost use Rattle.nova_engine.specs.Positions.{IsNextLine};
 
 /// How many bytes stand before the first newline.
 fn line_length(bytes: &[u8]) -> usize

@@ -1,23 +1,22 @@
-//! The program behind its words: sessions on the one channel `raw`.
+//! The program behind its words: a store is made, and sessions on it are taken.
 #![tactic(auto)]
 
+mod building;
+mod call;
+mod commands;
 mod cut;
-mod flow;
-mod kept;
+mod laws;
 mod lines;
 mod load;
 mod opening;
 mod program;
 mod reader;
-mod reply;
-mod rows;
+mod refused;
 mod session;
 mod status;
 mod stop;
-mod store;
-mod stored;
-mod words;
+mod text;
 
+pub use laws::{nothing_is_left_out, sessions_have_room, texts_are_inputs};
 pub use program::nova;
-pub use reply::row_text;
 pub use status::Status;

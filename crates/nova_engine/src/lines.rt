@@ -1,23 +1,27 @@
 //! A session's bytes, cut into lines as they come.
-ghost use Rattle.std.specs.Prelude.{◌≡◌, ◌≢◌, ◌+◌, ◌<◌, ◌≤◌, ◌^◌, ◌++◌, [], length, IfOk, IfErr, MatchResult, true, false};
+ghost use Rattle.std.specs.Prelude.{◌≡◌, ◌≢◌, ◌+◌, ◌<◌, ◌≤◌, ◌^◌, ◌++◌, ◌∷◌, [], length, IfOk, IfErr, true, false};
 ghost use Rattle.nova_value.specs.Text.{has_newline};
-ghost use Rattle.nova_engine.specs.Standing.{InHost, line_count};
-ghost use Rattle.nova_engine.specs.Moves.{MovesOn, BreaksOn, MovesBehind, BreaksBehind, Finishes, StopsFinish, Ends, StopsEnd, TakesLast};
-ghost use Rattle.nova_engine.specs.Steps.{HasStopCause};
+ghost use Rattle.nova_script.specs.Forms.{kept};
+ghost use Rattle.nova_engine.specs.Damage.{IsReadIn};
+ghost use Rattle.nova_engine.specs.Loading.{line_count};
+ghost use Rattle.nova_engine.specs.Moves.{BytesTold, EndTold, FinishTold, LastTold};
+ghost use Rattle.nova_engine.specs.Seen.{seen};
+ghost use Rattle.nova_engine.specs.Stopping.{HasStopCause, RepliesGrow};
 
 use crate::cut::next_line;
-use crate::reader::LineReader;
-use crate::session::{Session, close, take_line};
+use crate::reader::{LineReader, Session};
+use crate::session::{close, take_line};
 use crate::stop::Stop;
 use nova_outside::Host;
+use nova_script::HeldLine;
 use std::alloc::Global;
 
 /// Whether no bytes of a line are held.
-fn holds_nothing(carry: &Vec<u8>) -> bool
-    ensures none { result ≡ true → carry.now.items ≡ [] }
-    ensures some { result ≡ false → carry.now.items ≢ [] }
+fn holds_nothing(held: &HeldLine) -> bool
+    ensures none { result ≡ true → held.now ≡ [] }
+    ensures some { result ≡ false → held.now ≢ [] }
 {
-    carry.as_slice().is_empty()
+    held.bytes().is_empty()
 }
 
 /// Takes the line that these bytes and a newline end.
@@ -27,25 +31,24 @@ fn end_line<H: Host>(
     host: &mut H,
     bytes: &[u8],
 ) -> Result<LineReader, Stop>
-    requires room { reader.session.store.version + line_count reader.session.load < 2 ^ 63 + 2 ^ 62 }
-    requires in_host { InHost H.is_honest reader.session.store (H.history host.old) }
+    requires room { line_count reader.session.load < 2 ^ 63 }
     requires line { has_newline bytes.now ≡ false }
-    ensures in_host { IfOk result (λ new. InHost H.is_honest new.session.store (H.history host.new)) }
-    ensures room { IfOk result (λ new. new.session.store.version + line_count new.session.load ≤ reader.session.store.version + line_count reader.session.load + 1) }
-    ensures moves { MatchResult result
-        (λ new. MovesBehind H.is_honest reader new (H.history host.old) (H.history host.new) bytes.now)
-        (λ stop. BreaksBehind stop H.is_honest reader (H.history host.old) (H.history host.new) bytes.now) }
-    ensures cause { HasStopCause (H.disk_faults host.old) (H.disk_faults host.new) (H.reply_faults host.old) (H.reply_faults host.new) result }
+    requires in_host { IsReadIn H.is_honest reader.session.store (H.history host.old) }
+    ensures told { BytesTold H.is_honest reader (bytes.now ++ 10 ∷ []) (seen H.Host host.old) (seen H.Host host.new) result }
+    ensures in_host { IfOk result (λ new. IsReadIn H.is_honest new.session.store (H.history host.new)) }
+    ensures lines { IfOk result (λ new. line_count new.session.load ≤ line_count reader.session.load + 1) }
+    ensures cause { HasStopCause H.Host host.old host.new result }
+    ensures grows { RepliesGrow H.is_honest (H.history host.old) (H.history host.new) }
 {
-    let LineReader { session, mut carry } = reader;
-    if holds_nothing(&carry) {
+    let LineReader { session, mut held } = reader;
+    if holds_nothing(&held) {
         let session = take_line(session, alloc, host, bytes)?;
-        return Ok(LineReader { session, carry });
+        return Ok(LineReader { session, held });
     }
-    carry.extend_from_slice(bytes)?;
-    let session = take_line(session, alloc, host, carry.as_slice())?;
-    carry.clear();
-    Ok(LineReader { session, carry })
+    held.push(bytes)?;
+    let session = take_line(session, alloc, host, held.bytes())?;
+    held.clear();
+    Ok(LineReader { session, held })
 }
 
 /// Takes the next piece of the input.
@@ -55,14 +58,13 @@ pub fn take_piece<H: Host>(
     host: &mut H,
     bytes: &[u8],
 ) -> Result<LineReader, Stop>
-    requires room { reader.session.store.version + line_count reader.session.load + length bytes.now < 2 ^ 63 + 2 ^ 62 }
-    requires in_host { InHost H.is_honest reader.session.store (H.history host.old) }
-    ensures in_host { IfOk result (λ new. InHost H.is_honest new.session.store (H.history host.new)) }
-    ensures room { IfOk result (λ new. new.session.store.version + line_count new.session.load ≤ reader.session.store.version + line_count reader.session.load + length bytes.now) }
-    ensures moves { MatchResult result
-        (λ new. MovesOn H.is_honest reader new (H.history host.old) (H.history host.new) bytes.now)
-        (λ stop. BreaksOn stop H.is_honest reader (H.history host.old) (H.history host.new) bytes.now) }
-    ensures cause { HasStopCause (H.disk_faults host.old) (H.disk_faults host.new) (H.reply_faults host.old) (H.reply_faults host.new) result }
+    requires room { line_count reader.session.load + length bytes.now < 2 ^ 63 }
+    requires in_host { IsReadIn H.is_honest reader.session.store (H.history host.old) }
+    ensures told { BytesTold H.is_honest reader bytes.now (seen H.Host host.old) (seen H.Host host.new) result }
+    ensures in_host { IfOk result (λ new. IsReadIn H.is_honest new.session.store (H.history host.new)) }
+    ensures lines { IfOk result (λ new. line_count new.session.load ≤ line_count reader.session.load + length bytes.now) }
+    ensures cause { HasStopCause H.Host host.old host.new result }
+    ensures grows { RepliesGrow H.is_honest (H.history host.old) (H.history host.new) }
 {
     let mut reader = reader;
     let mut rest = bytes;
@@ -77,40 +79,36 @@ pub fn take_piece<H: Host>(
 fn carry_on(reader: LineReader, bytes: &[u8]) -> Result<LineReader, Stop>
     requires { has_newline bytes.now ≡ false }
     ensures session { IfOk result (λ new. new.session ≡ reader.session) }
-    ensures carry { IfOk result (λ new. new.carry.items ≡ reader.carry.items ++ bytes.now) }
+    ensures held { IfOk result (λ new. new.held ≡ kept (reader.held ++ bytes.now)) }
     ensures memory { IfErr result (λ stop. stop ≡ Stop.Memory) }
 {
-    let LineReader { session, mut carry } = reader;
-    carry.extend_from_slice(bytes)?;
-    Ok(LineReader { session, carry })
+    let LineReader { session, mut held } = reader;
+    held.push(bytes)?;
+    Ok(LineReader { session, held })
 }
 
 /// Takes a last line that no newline ends.
 fn take_last_line<H: Host>(reader: LineReader, alloc: Global, host: &mut H) -> Result<Session, Stop>
-    requires room { reader.session.store.version + line_count reader.session.load < 2 ^ 63 + 2 ^ 62 }
-    requires in_host { InHost H.is_honest reader.session.store (H.history host.old) }
-    ensures in_host { IfOk result (λ new. InHost H.is_honest new.store (H.history host.new)) }
-    ensures room { IfOk result (λ new. new.store.version ≤ reader.session.store.version + line_count reader.session.load + 1) }
-    ensures last { MatchResult result
-        (λ new. TakesLast H.is_honest reader new (H.history host.old) (H.history host.new))
-        (λ stop. StopsFinish stop H.is_honest reader (H.history host.old) (H.history host.new)) }
-    ensures cause { HasStopCause (H.disk_faults host.old) (H.disk_faults host.new) (H.reply_faults host.old) (H.reply_faults host.new) result }
+    requires room { line_count reader.session.load < 2 ^ 63 }
+    requires in_host { IsReadIn H.is_honest reader.session.store (H.history host.old) }
+    ensures told { LastTold H.is_honest reader (seen H.Host host.old) (seen H.Host host.new) result }
+    ensures in_host { IfOk result (λ new. IsReadIn H.is_honest new.store (H.history host.new)) }
+    ensures cause { HasStopCause H.Host host.old host.new result }
+    ensures grows { RepliesGrow H.is_honest (H.history host.old) (H.history host.new) }
 {
-    let LineReader { session, carry } = reader;
-    if holds_nothing(&carry) {
+    let LineReader { session, held } = reader;
+    if holds_nothing(&held) {
         return Ok(session);
     }
-    take_line(session, alloc, host, carry.as_slice())
+    take_line(session, alloc, host, held.bytes())
 }
 
 /// Takes a load that the input cut off.
 fn end_session<H: Host>(session: Session, alloc: Global, host: &mut H) -> Result<(), Stop>
-    requires room { session.store.version < 2 ^ 63 + 2 ^ 62 }
-    requires in_host { InHost H.is_honest session.store (H.history host.old) }
-    ensures end { MatchResult result
-        (λ _. Ends H.is_honest session (H.history host.old) (H.history host.new))
-        (λ stop. StopsEnd stop H.is_honest session (H.history host.old) (H.history host.new)) }
-    ensures cause { HasStopCause (H.disk_faults host.old) (H.disk_faults host.new) (H.reply_faults host.old) (H.reply_faults host.new) result }
+    requires in_host { IsReadIn H.is_honest session.store (H.history host.old) }
+    ensures told { EndTold H.is_honest session (seen H.Host host.old) (seen H.Host host.new) result }
+    ensures cause { HasStopCause H.Host host.old host.new result }
+    ensures grows { RepliesGrow H.is_honest (H.history host.old) (H.history host.new) }
 {
     let Session { store, load } = session;
     if let Some(pending) = load {
@@ -121,12 +119,11 @@ fn end_session<H: Host>(session: Session, alloc: Global, host: &mut H) -> Result
 
 /// Takes what is left where the input ends.
 pub fn finish<H: Host>(reader: LineReader, alloc: Global, host: &mut H) -> Result<(), Stop>
-    requires room { reader.session.store.version + line_count reader.session.load + 1 < 2 ^ 63 + 2 ^ 62 }
-    requires in_host { InHost H.is_honest reader.session.store (H.history host.old) }
-    ensures finish { MatchResult result
-        (λ _. Finishes H.is_honest reader (H.history host.old) (H.history host.new))
-        (λ stop. StopsFinish stop H.is_honest reader (H.history host.old) (H.history host.new)) }
-    ensures cause { HasStopCause (H.disk_faults host.old) (H.disk_faults host.new) (H.reply_faults host.old) (H.reply_faults host.new) result }
+    requires room { line_count reader.session.load < 2 ^ 63 }
+    requires in_host { IsReadIn H.is_honest reader.session.store (H.history host.old) }
+    ensures told { FinishTold H.is_honest reader (seen H.Host host.old) (seen H.Host host.new) result }
+    ensures cause { HasStopCause H.Host host.old host.new result }
+    ensures grows { RepliesGrow H.is_honest (H.history host.old) (H.history host.new) }
 {
     let session = take_last_line(reader, alloc, host)?;
     end_session(session, alloc, host)

@@ -1,104 +1,86 @@
-//! A store that is made, and one that is opened.
-ghost use Rattle.std.specs.Prelude.{◌≡◌, ◌⊎◌, ◌+◌, ◌<◌, ◌≤◌, ◌^◌, ◌*◌, ℕ, [], IfOk, IfErr, MatchResult, IsTrue};
+//! A store that is made, and how a call ends that opened none or stopped.
+ghost use Rattle.std.specs.Prelude.{◌≡◌, ◌⊎◌, ◌≤◌, None, IsTrue};
 ghost use Rattle.nova_outside.specs.Causes.{Rose};
-ghost use Rattle.nova_outside.specs.History.{current, replies};
-ghost use Rattle.nova_journal.specs.Marks.{IsUnmarked};
-ghost use Rattle.nova_engine.specs.Standing.{InHost};
-ghost use Rattle.nova_engine.specs.Opening.{HasMark, IsInitEnd, IsNew, InitTold, MakeStops, Opens, UnopenedTold, unopened_by, unread_in};
-ghost use Rattle.nova_engine.specs.Steps.{Adds, HasStopCause};
+ghost use Rattle.nova_outside.specs.History.{current};
+ghost use Rattle.nova_journal.specs.Marks.{IsMark};
+ghost use Rattle.nova_engine.specs.Ending.{DamageTold, EndsStopped, EndsUnopened, IsEndOfText, ReadyGiven, RefusalGiven, unread_end};
+ghost use Rattle.nova_engine.specs.Seen.{seen};
+ghost use Rattle.nova_engine.specs.Status.{IsInitEnd, IsSessionEnd, IsUnopenedEnd};
+ghost use Rattle.nova_engine.specs.Told.{HasMark, InitRead, InitTold};
 
-use crate::kept::Store;
-use crate::reply::ready;
-use crate::status::{Status, status_of};
+use crate::refused::refused_reply;
+use crate::status::Status;
 use crate::stop::Stop;
-use crate::store::stop_of;
-use crate::stored::{Unfolded, read_store, workflow_text};
-use nova_journal::{Journal, LogFault, frame, marked};
-use nova_outside::Host;
+use crate::text::{Unread, read_text};
+use nova_journal::marked;
+use nova_outside::{Host, Source};
+use nova_runner::{InitFault, OpenFault, Store, TextFault};
+use nova_script::{Reply, send};
 use std::alloc::Global;
 
-/// Why a store wasn't opened.
-pub enum Unopened {
-    Disk,
-    /// No mark is there.
-    NoStore,
-    /// The file with this number isn't a store's journal, at this place.
-    Damaged { file: u64, at: u64 },
-    Memory,
-}
-
-fn why_unopened(fault: LogFault) -> Unopened
-    ensures { result ≡ unopened_by fault }
+/// Replies the line of a store that was made.
+fn tell_ready<H: Host>(host: &mut H, store: &Store) -> Status
+    ensures told { ReadyGiven H.is_honest store.now.flow result (seen H.Host host.old) (seen H.Host host.new) }
+    ensures reply { result ≡ Status.ReplyFault → Rose (H.reply_faults host.old) (H.reply_faults host.new) }
+    ensures disk_faults { H.disk_faults host.new ≡ H.disk_faults host.old }
 {
-    match fault {
-        LogFault::Disk => Unopened::Disk,
-        LogFault::NoStore => Unopened::NoStore,
-        LogFault::Damaged { file, at } => Unopened::Damaged { file, at },
-        LogFault::Full { length: _ } | LogFault::NoMemory => Unopened::Memory,
+    match send(
+        host,
+        &Reply::ready(store.channel_count(), store.task_count()),
+    ) {
+        Ok(()) => Status::Done,
+        Err(_) => Status::ReplyFault,
     }
 }
 
-fn why_unread(file: u64, why: Unfolded) -> Unopened
-    ensures { result ≡ unread_in file why }
+/// Replies why a text is refused.
+fn tell_refused<H: Host>(host: &mut H, why: &TextFault) -> Status
+    ensures told { RefusalGiven H.is_honest why.now result (seen H.Host host.old) (seen H.Host host.new) }
+    ensures reply { result ≡ Status.ReplyFault → Rose (H.reply_faults host.old) (H.reply_faults host.new) }
+    ensures disk_faults { H.disk_faults host.new ≡ H.disk_faults host.old }
+{
+    match send(host, &refused_reply(why)) {
+        Ok(()) => Status::FlowRefused,
+        Err(_) => Status::ReplyFault,
+    }
+}
+
+/// Makes a store of a workflow's text, without versions, where none is there, and replies the
+/// numbers of its channels and tasks; or why the text is refused.
+fn make_store<H: Host>(alloc: Global, host: &mut H, text: &[u8]) -> Status
+    requires unmarked { IsTrue H.is_honest → IsMark (current (H.history host.old)) None }
+    ensures status { IsInitEnd result }
+    ensures of_text { IsEndOfText result }
+    ensures told { IsTrue H.is_honest → InitTold text.now result (seen H.Host host.old) (seen H.Host host.new) }
+    ensures disk { result ≡ Status.DiskFault → Rose (H.disk_faults host.old) (H.disk_faults host.new) }
+    ensures reply { result ≡ Status.ReplyFault → Rose (H.reply_faults host.old) (H.reply_faults host.new) }
+{
+    match Store::init(alloc, host, text) {
+        Ok(store) => tell_ready(host, &store),
+        Err(InitFault::Disk) => Status::DiskFault,
+        Err(InitFault::Flow(why)) => tell_refused(host, &why),
+        Err(InitFault::NoMemory) => Status::NoMemory,
+    }
+}
+
+/// The status where the text wasn't read.
+fn unread_status(why: Unread) -> Status
+    ensures { result ≡ unread_end why }
 {
     match why {
-        Unfolded::At(at) => Unopened::Damaged { file, at },
-        Unfolded::Memory => Unopened::Memory,
+        Unread::Source => Status::ReadFault,
+        Unread::Memory => Status::NoMemory,
     }
 }
 
-/// Opens the store of the newest mark: its journal's loads, merged in turn.
-pub fn open<H: Host>(alloc: Global, host: &mut H) -> Result<Store, Unopened>
-    ensures version { IfOk result (λ store. store.version < 2 ^ 63) }
-    ensures in_host { IfOk result (λ store. InHost H.is_honest store (H.history host.new)) }
-    ensures opened { IsTrue H.is_honest → MatchResult result
-        (λ store. Opens H.is_honest store (H.history host.old) (H.history host.new))
-        (λ why. UnopenedTold why (current (H.history host.old))) }
-    ensures files { IsTrue H.is_honest → (n : ℕ) → current (H.history host.new) n ≡ current (H.history host.old) n }
-    ensures replies { IsTrue H.is_honest → replies (H.history host.new) ≡ replies (H.history host.old) }
-    ensures cause { IfErr result (λ why. why ≡ Unopened.Disk → Rose (H.disk_faults host.old) (H.disk_faults host.new)) }
-    ensures later { H.disk_faults host.old ≤ H.disk_faults host.new }
-    ensures reply_faults { H.reply_faults host.new ≡ H.reply_faults host.old }
-{
-    let (journal, payloads) = match Journal::reopen(alloc, host) {
-        Ok(found) => found,
-        Err(fault) => return Err(why_unopened(fault)),
-    };
-    match read_store(alloc, payloads.as_slice()) {
-        Ok((table, version)) => Ok(Store {
-            journal,
-            table,
-            version,
-        }),
-        Err(why) => Err(why_unread(4 * journal.generation(), why)),
-    }
-}
-
-/// Makes the store's journal, with the workflow's text, and then its mark.
-fn make_store<H: Host>(alloc: Global, host: &mut H) -> Result<(), Stop>
-    requires unmarked { IsTrue H.is_honest → IsUnmarked 0 (current (H.history host.old)) }
-    ensures made { IsTrue H.is_honest → MatchResult result
-        (λ _. Adds (H.history host.old) (H.history host.new) [] × IsNew (H.history host.new))
-        (λ stop. MakeStops stop (H.history host.old) (H.history host.new)) }
-    ensures stop { IfErr result (λ stop. (stop ≡ Stop.Disk) ⊎ (stop ≡ Stop.Memory)) }
-    ensures cause { HasStopCause (H.disk_faults host.old) (H.disk_faults host.new) (H.reply_faults host.old) (H.reply_faults host.new) result }
-{
-    let framed = frame(alloc, workflow_text())?;
-    let journal = match Journal::create(host, 0, &framed) {
-        Ok(journal) => journal,
-        Err(fault) => return Err(stop_of(fault)),
-    };
-    match journal.mark(host) {
-        Ok(_) => Ok(()),
-        Err(fault) => Err(stop_of(fault)),
-    }
-}
-
-/// Makes a store of the one channel, without loads, where none is there.
-pub fn init<H: Host>(alloc: Global, host: &mut H) -> Status
+/// Reads a workflow's text from the source and makes its store, where none is there.
+pub fn init<S: Source, H: Host>(alloc: Global, source: &mut S, host: &mut H) -> Status
     ensures status { IsInitEnd result }
     ensures there { result ≡ Status.StoreThere → IsTrue H.is_honest → HasMark (current (H.history host.old)) }
-    ensures told { IsTrue H.is_honest → InitTold result (H.history host.old) (H.history host.new) }
+    ensures unread { result ≡ Status.StoreThere → source.new ≡ source.old }
+    ensures left { IsTrue H.is_honest → HasMark (current (H.history host.old)) → source.new ≡ source.old }
+    ensures told { IsTrue H.is_honest → InitRead result (S.left source.old) (S.left source.new) (seen H.Host host.old) (seen H.Host host.new) }
+    ensures read { result ≡ Status.ReadFault → Rose (S.faults source.old) (S.faults source.new) }
     ensures disk { result ≡ Status.DiskFault → Rose (H.disk_faults host.old) (H.disk_faults host.new) }
     ensures reply { result ≡ Status.ReplyFault → Rose (H.reply_faults host.old) (H.reply_faults host.new) }
 {
@@ -107,11 +89,55 @@ pub fn init<H: Host>(alloc: Global, host: &mut H) -> Status
         Ok(Some(_)) => return Status::StoreThere,
         Ok(None) => {}
     }
-    if let Err(stop) = make_store(alloc, host) {
-        return status_of(stop);
+    match read_text(alloc, source) {
+        Ok(text) => make_store(alloc, host, &text),
+        Err(why) => unread_status(why),
     }
-    match ready(host) {
-        Ok(()) => Status::Done,
+}
+
+/// Replies where a file is damaged.
+fn tell_damage<H: Host>(host: &mut H, file: u64, at: u64) -> Status
+    ensures told { DamageTold H.is_honest file at result (seen H.Host host.old) (seen H.Host host.new) }
+    ensures reply { result ≡ Status.ReplyFault → Rose (H.reply_faults host.old) (H.reply_faults host.new) }
+    ensures disk_faults { H.disk_faults host.new ≡ H.disk_faults host.old }
+    ensures reply_later { H.reply_faults host.old ≤ H.reply_faults host.new }
+{
+    match send(host, &Reply::damaged(file, at)) {
+        Ok(()) => Status::Damaged,
         Err(_) => Status::ReplyFault,
+    }
+}
+
+/// The status of a store that wasn't opened; of a damaged one the place is replied.
+pub fn end_unopened<H: Host>(host: &mut H, fault: OpenFault) -> Status
+    ensures status { IsUnopenedEnd result }
+    ensures ends { EndsUnopened H.is_honest fault result (seen H.Host host.old) (seen H.Host host.new) }
+    ensures disk { result ≡ Status.DiskFault → fault ≡ OpenFault.Disk }
+    ensures reply { result ≡ Status.ReplyFault → Rose (H.reply_faults host.old) (H.reply_faults host.new) }
+    ensures disk_faults { H.disk_faults host.new ≡ H.disk_faults host.old }
+{
+    match fault {
+        OpenFault::Disk => Status::DiskFault,
+        OpenFault::NoStore => Status::NoStore,
+        OpenFault::Damaged { file, at } => tell_damage(host, file, at),
+        OpenFault::NoMemory => Status::NoMemory,
+    }
+}
+
+/// The status of a session that stopped; of a damaged file the place is replied.
+pub fn end_stopped<H: Host>(host: &mut H, stop: Stop) -> Status
+    ensures status { IsSessionEnd result }
+    ensures ends { EndsStopped H.is_honest stop result (seen H.Host host.old) (seen H.Host host.new) }
+    ensures disk { result ≡ Status.DiskFault → stop ≡ Stop.Disk }
+    ensures reply { result ≡ Status.ReplyFault → (stop ≡ Stop.Reply) ⊎ Rose (H.reply_faults host.old) (H.reply_faults host.new) }
+    ensures disk_faults { H.disk_faults host.new ≡ H.disk_faults host.old }
+    ensures reply_later { H.reply_faults host.old ≤ H.reply_faults host.new }
+{
+    match stop {
+        Stop::Disk => Status::DiskFault,
+        Stop::Reply => Status::ReplyFault,
+        Stop::Damaged { file, at } => tell_damage(host, file, at),
+        Stop::Full { length: _ } => Status::Full,
+        Stop::Memory => Status::NoMemory,
     }
 }

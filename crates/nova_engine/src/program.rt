@@ -1,24 +1,26 @@
 //! The top call: the words, and the loop that reads the input.
-ghost use Rattle.std.specs.Prelude.{◌≡◌, ◌≢◌, ◌↔◌, ◌+◌, ◌<◌, ◌≤◌, ◌^◌, ◌∷◌, [], List, ℕ, Some, None, codes, length, map, string_bytes, take, IsTrue, IfOk, MatchResult};
+ghost use Rattle.std.specs.Prelude.{◌≡◌, ◌+◌, ◌<◌, ◌≤◌, ◌^◌, [], List, ℕ, Some, None, length, map, string_bytes, take, IsTrue, IfOk, MatchResult};
 ghost use Rattle.std.specs.Io.KnownBytes.{Consumes, Keeps, IsAtEnd};
 ghost use Rattle.nova_outside.specs.Causes.{HasCause, Rose};
 ghost use Rattle.nova_outside.specs.History.{current};
 ghost use Rattle.nova_journal.specs.Marks.{IsMark};
-ghost use Rattle.nova_engine.specs.Calls.{AsksInit, AsksRun, AsksNothing, EndsUnopened, HasDamage, IsRunEnd, IsSessionEnd, IsUnopenedEnd, Makes, RunTold, Runs};
-ghost use Rattle.nova_engine.specs.Ends.{Told};
-ghost use Rattle.nova_engine.specs.Opening.{HasMark};
-ghost use Rattle.nova_engine.specs.Status.{code_of, stop_status, ended_status};
-ghost use Rattle.nova_engine.specs.Standing.{InHost, StandsFor};
-ghost use Rattle.nova_engine.specs.Stored.{Stands};
+ghost use Rattle.nova_engine.specs.Damage.{IsBadBlock, IsReadIn, TellsDamage};
+ghost use Rattle.nova_engine.specs.Call.{AsksInit, AsksNothing, AsksRun};
+ghost use Rattle.nova_engine.specs.Loading.{line_count};
+ghost use Rattle.nova_engine.specs.Moves.{EndsWhole};
+ghost use Rattle.nova_engine.specs.Seen.{seen};
+ghost use Rattle.nova_engine.specs.Sessions.{Ran, Took};
+ghost use Rattle.nova_engine.specs.Status.{EndsBy, IsInitEnd, IsRunEnd, IsSessionEnd};
+ghost use Rattle.nova_engine.specs.Told.{FilesTold, HasMark, InitRead, RunTold, Tells};
 
-use crate::kept::Store;
+use crate::call::{Call, call_of};
 use crate::lines::{finish, take_piece};
-use crate::opening::{Unopened, init, open};
-use crate::reader::LineReader;
-use crate::reply::damaged;
-use crate::session::Session;
-use crate::status::{Status, status_at_end, status_of};
+use crate::opening::{end_stopped, end_unopened, init};
+use crate::reader::{LineReader, Session};
+use crate::status::Status;
 use nova_outside::{Failed, Host, Source};
+use nova_runner::{Store, bad_stores};
+use nova_script::HeldLine;
 use std::alloc::Global;
 
 /// The most bytes that a session may have.
@@ -26,36 +28,6 @@ const LIMIT: u64 = 1 << 40;
 
 /// The most bytes that are taken at once.
 const PIECE: usize = 65536;
-
-/// What the words ask for.
-enum Call {
-    Init,
-    Run,
-    Other,
-}
-
-/// The call that a word asks for.
-fn call_of_word(word: &str) -> Call
-    ensures init { result ≡ Call.Init ↔ (word.now ≡ codes "init") }
-    ensures run { result ≡ Call.Run ↔ (word.now ≡ codes "run") }
-{
-    match word {
-        "init" => Call::Init,
-        "run" => Call::Run,
-        _ => Call::Other,
-    }
-}
-
-/// The call that the words ask for.
-fn call_of(words: &[String]) -> Call
-    ensures init { (result ≡ Call.Init → AsksInit (map string_bytes words.now)) × (AsksInit (map string_bytes words.now) → result ≡ Call.Init) }
-    ensures run { (result ≡ Call.Run → AsksRun (map string_bytes words.now)) × (AsksRun (map string_bytes words.now) → result ≡ Call.Run) }
-{
-    match words {
-        [word] => call_of_word(word.as_str()),
-        _ => Call::Other,
-    }
-}
 
 /// How much may be taken at once behind so many bytes: never more than one byte past the limit.
 fn room_behind(taken: u64) -> usize
@@ -88,12 +60,31 @@ fn fill<S: Source>(source: &mut S, buffer: &mut [u8], taken: u64) -> Result<usiz
 
 /// A session before its first byte.
 fn opened(alloc: Global, store: Store) -> LineReader
-    ensures session { result.session ≡ record { store = store; load = None } }
-    ensures carry { result.carry.items ≡ [] }
+    ensures store { result.session.store ≡ store }
+    ensures load { result.session.load ≡ None }
+    ensures held { result.held ≡ [] }
 {
     LineReader {
         session: Session { store, load: None },
-        carry: Vec::new(alloc),
+        held: HeldLine::new(alloc),
+    }
+}
+
+/// The status of a session whose input ended.
+fn end_whole<H: Host>(reader: LineReader, alloc: Global, host: &mut H) -> Status
+    requires room { line_count reader.session.load < 2 ^ 63 }
+    requires in_host { IsReadIn H.is_honest reader.session.store (H.history host.old) }
+    ensures status { IsSessionEnd result }
+    ensures told { EndsWhole H.is_honest reader result (seen H.Host host.old) (seen H.Host host.new) }
+    ensures damage { IsTrue H.is_honest → result ≡ Status.Damaged → TellsDamage (IsBadBlock (current (H.history host.new))) (H.history host.old) (H.history host.new) }
+    ensures disk { result ≡ Status.DiskFault → Rose (H.disk_faults host.old) (H.disk_faults host.new) }
+    ensures reply { result ≡ Status.ReplyFault → Rose (H.reply_faults host.old) (H.reply_faults host.new) }
+    ensures disk_later { H.disk_faults host.old ≤ H.disk_faults host.new }
+    ensures reply_later { H.reply_faults host.old ≤ H.reply_faults host.new }
+{
+    match finish(reader, alloc, host) {
+        Ok(()) => Status::Done,
+        Err(stop) => end_stopped(host, stop),
     }
 }
 
@@ -104,14 +95,13 @@ fn run_session<S: Source, H: Host>(
     source: &mut S,
     host: &mut H,
 ) -> Status
-    requires room { store.version < 2 ^ 63 }
-    requires in_host { InHost H.is_honest store (H.history host.old) }
+    requires in_host { IsReadIn H.is_honest store (H.history host.old) }
     ensures status { IsSessionEnd result }
     ensures read { result ≡ Status.ReadFault → Rose (S.faults source.old) (S.faults source.new) }
     ensures disk { result ≡ Status.DiskFault → Rose (H.disk_faults host.old) (H.disk_faults host.new) }
     ensures reply { result ≡ Status.ReplyFault → Rose (H.reply_faults host.old) (H.reply_faults host.new) }
-    ensures told { (input : List ℕ) → S.left source.old ≡ Some input →
-        Told (code_of result) H.is_honest (StandsFor H.is_honest store (H.history host.old)) input (S.left source.new) (H.history host.old) (H.history host.new) }
+    ensures damage { IsTrue H.is_honest → result ≡ Status.Damaged → TellsDamage (IsBadBlock (current (H.history host.new))) (H.history host.old) (H.history host.new) }
+    ensures ran { (input : List ℕ) → S.left source.old ≡ Some input → Ran result H.is_honest store input (S.left source.new) (seen H.Host host.old) (seen H.Host host.new) }
 {
     let mut reader = opened(alloc, store);
     let mut buffer = [0; PIECE];
@@ -121,34 +111,15 @@ fn run_session<S: Source, H: Host>(
             return Status::ReadFault;
         };
         if count == 0 {
-            return status_at_end(finish(reader, alloc, host));
+            return end_whole(reader, alloc, host);
         }
         reader = match take_piece(reader, alloc, host, &buffer[..count]) {
             Ok(next) => next,
-            Err(stop) => return status_of(stop),
+            Err(stop) => return end_stopped(host, stop),
         };
         taken += count as u64;
     }
     Status::InputTooLong
-}
-
-/// The status of a store that wasn't opened; of a damaged one the place is replied.
-fn end_unopened<H: Host>(host: &mut H, why: Unopened) -> Status
-    ensures status { IsUnopenedEnd result }
-    ensures disk { result ≡ Status.DiskFault → why ≡ Unopened.Disk }
-    ensures reply { result ≡ Status.ReplyFault → Rose (H.reply_faults host.old) (H.reply_faults host.new) }
-    ensures disk_faults { H.disk_faults host.new ≡ H.disk_faults host.old }
-    ensures ends { EndsUnopened H.is_honest why result (H.history host.old) (H.history host.new) }
-{
-    match why {
-        Unopened::Disk => Status::DiskFault,
-        Unopened::NoStore => Status::NoStore,
-        Unopened::Damaged { file, at } => match damaged(host, file, at) {
-            Ok(()) => Status::Damaged,
-            Err(_) => Status::ReplyFault,
-        },
-        Unopened::Memory => Status::NoMemory,
-    }
 }
 
 /// Opens the store and takes a session.
@@ -157,35 +128,43 @@ fn run<S: Source, H: Host>(alloc: Global, source: &mut S, host: &mut H) -> Statu
     ensures read { result ≡ Status.ReadFault → Rose (S.faults source.old) (S.faults source.new) }
     ensures disk { result ≡ Status.DiskFault → Rose (H.disk_faults host.old) (H.disk_faults host.new) }
     ensures reply { result ≡ Status.ReplyFault → Rose (H.reply_faults host.old) (H.reply_faults host.new) }
-    ensures files { IsTrue H.is_honest → RunTold result (H.history host.old) (H.history host.new) }
-    ensures told { (input : List ℕ) → S.left source.old ≡ Some input →
-        Told (code_of result) H.is_honest (Stands (current (H.history host.old))) input (S.left source.new) (H.history host.old) (H.history host.new) }
+    ensures took { (input : List ℕ) → S.left source.old ≡ Some input → (taken : List ℕ) × Took result input (S.left source.new) taken }
+    ensures files { IsTrue H.is_honest → FilesTold result (source.new ≡ source.old) (seen H.Host host.old) (seen H.Host host.new) }
+    ensures told { IsTrue H.is_honest → (input : List ℕ) → S.left source.old ≡ Some input → RunTold result input (S.left source.new) (seen H.Host host.old) (seen H.Host host.new) }
 {
-    match open(alloc, host) {
+    match Store::reopen(alloc, host) {
         Ok(store) => run_session(store, alloc, source, host),
-        Err(why) => end_unopened(host, why),
+        Err(fault) => {
+            bad_stores();
+            end_unopened(host, fault)
+        }
     }
 }
 
-/// Runs the program: `init` makes a store, and `run` reads a session from the source and takes it.
+/// Runs the program: `init` makes a store of the workflow's text that the source has, and `run` reads a session from the source and takes it.
 /// The words are those behind the program's name; the answer is the status that the process ends with.
 pub fn nova<S: Source, H: Host>(alloc: Global, words: &[String], source: &mut S, host: &mut H) -> u8
-    ensures known { (status : Status) × (result ≡ code_of status) }
-    ensures usage { result ≡ 1 → AsksNothing (map string_bytes words.now) }
+    // Over every source and host: which statuses each form of the words may end with, and their causes.
     ensures other_words { AsksNothing (map string_bytes words.now) → (result ≡ 1) × (source.new ≡ source.old) × (host.new ≡ host.old) }
+    ensures init_ends { AsksInit (map string_bytes words.now) → EndsBy result IsInitEnd }
+    ensures run_ends { AsksRun (map string_bytes words.now) → EndsBy result IsRunEnd }
     ensures read { result ≡ 2 → Rose (S.faults source.old) (S.faults source.new) }
     ensures disk { result ≡ 3 → Rose (H.disk_faults host.old) (H.disk_faults host.new) }
     ensures reply { result ≡ 4 → Rose (H.reply_faults host.old) (H.reply_faults host.new) }
-    ensures no_store { result ≡ 6 → AsksRun (map string_bytes words.now) × (IsTrue H.is_honest → IsMark (current (H.history host.old)) None) }
-    ensures store_there { result ≡ 7 → AsksInit (map string_bytes words.now) × (IsTrue H.is_honest → HasMark (current (H.history host.old))) }
-    ensures damaged { result ≡ 9 → AsksRun (map string_bytes words.now) × (IsTrue H.is_honest → HasDamage (current (H.history host.old))) }
-    ensures made { AsksInit (map string_bytes words.now) → (source.new ≡ source.old) × (IsTrue H.is_honest → Makes result (H.history host.old) (H.history host.new)) }
-    ensures opened { AsksRun (map string_bytes words.now) → IsTrue H.is_honest → Runs result (H.history host.old) (H.history host.new) }
-    ensures told { AsksRun (map string_bytes words.now) → (input : List ℕ) → S.left source.old ≡ Some input →
-        Told result H.is_honest (Stands (current (H.history host.old))) input (S.left source.new) (H.history host.old) (H.history host.new) }
+    // A text isn't read where a store is there.
+    ensures unread { AsksInit (map string_bytes words.now) → result ≡ 7 → source.new ≡ source.old }
+    ensures left { AsksInit (map string_bytes words.now) → IsTrue H.is_honest → HasMark (current (H.history host.old)) → source.new ≡ source.old }
+    // the part of the input that a session took, where the source tells its bytes
+    ensures took { AsksRun (map string_bytes words.now) → (input : List ℕ) → S.left source.old ≡ Some input →
+        Tells result (λ status. (taken : List ℕ) × Took status input (S.left source.new) taken) }
+    // Over an honest host: `init`, and `run` over files that are no store's and those that are.
+    ensures made { AsksInit (map string_bytes words.now) → IsTrue H.is_honest → Tells result (λ status. InitRead status (S.left source.old) (S.left source.new) (seen H.Host host.old) (seen H.Host host.new)) }
+    ensures files { AsksRun (map string_bytes words.now) → IsTrue H.is_honest → Tells result (λ status. FilesTold status (source.new ≡ source.old) (seen H.Host host.old) (seen H.Host host.new)) }
+    ensures told { AsksRun (map string_bytes words.now) → IsTrue H.is_honest → (input : List ℕ) → S.left source.old ≡ Some input →
+        Tells result (λ status. RunTold status input (S.left source.new) (seen H.Host host.old) (seen H.Host host.new)) }
 {
     match call_of(words) {
-        Call::Init => init(alloc, host).code(),
+        Call::Init => init(alloc, source, host).code(),
         Call::Run => run(alloc, source, host).code(),
         Call::Other => Status::Usage.code(),
     }

@@ -1,8 +1,6 @@
 //! How a call of the program ends.
 ghost use Rattle.std.specs.Prelude.{◌≡◌};
-ghost use Rattle.nova_engine.specs.Status.{code_of, stop_status, ended_status};
-
-use crate::stop::Stop;
+ghost use Rattle.nova_engine.specs.Status.{code_of};
 
 /// How a call of the program ends.
 #[derive(Clone, Copy, Debug, PartialEq, Eq)]
@@ -19,9 +17,11 @@ pub enum Status {
     NoStore,
     /// A store is there already.
     StoreThere,
+    /// The workflow's text is refused; the line that says why was replied.
+    FlowRefused,
     /// A file of the store is damaged; the line that names it and the place was replied.
     Damaged,
-    /// The journal has no room for a load.
+    /// The journal or a counter has no room for a command.
     Full,
     InputTooLong,
 }
@@ -40,31 +40,10 @@ impl Status {
             Status::NoMemory => 5,
             Status::NoStore => 6,
             Status::StoreThere => 7,
+            Status::FlowRefused => 8,
             Status::Damaged => 9,
             Status::Full => 10,
             Status::InputTooLong => 11,
         }
-    }
-}
-
-/// The status of a session that stopped.
-pub fn status_of(stop: Stop) -> Status
-    ensures { result ≡ stop_status stop }
-{
-    match stop {
-        Stop::Disk => Status::DiskFault,
-        Stop::Reply => Status::ReplyFault,
-        Stop::Full => Status::Full,
-        Stop::Memory => Status::NoMemory,
-    }
-}
-
-/// The status of a session whose input ended.
-pub fn status_at_end(outcome: Result<(), Stop>) -> Status
-    ensures { result ≡ ended_status outcome }
-{
-    match outcome {
-        Ok(()) => Status::Done,
-        Err(stop) => status_of(stop),
     }
 }

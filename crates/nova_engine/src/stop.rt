@@ -1,8 +1,12 @@
 //! Why a session ends before its input does.
 ghost use Rattle.std.specs.Prelude.{◌≡◌};
+ghost use Rattle.nova_runner.specs.Reading.{why_unshown};
+ghost use Rattle.nova_runner.specs.Steps.{why_of};
+ghost use Rattle.nova_engine.specs.Stopping.{why};
 ghost use Rattle.nova_engine.specs.declared.stop.Stop.TheVariants.{Reply, Memory};
 
 use nova_outside::Failed;
+use nova_runner::{Stopped, Unshown};
 use std::alloc::{AllocError, AllocFailed};
 
 /// Why a session ended before its input did.
@@ -12,8 +16,10 @@ pub enum Stop {
     Disk,
     /// A reply failed.
     Reply,
-    /// A load would take the journal past its bound.
-    Full,
+    /// The file with this number is damaged at this place.
+    Damaged { file: u64, at: u64 },
+    /// A command would take the journal of this length, or a counter, past its bound.
+    Full { length: u64 },
     Memory,
 }
 
@@ -33,10 +39,26 @@ impl From<AllocError> for Stop {
     }
 }
 
-impl<T: Drop> From<AllocFailed<T>> for Stop {
-    ghost from_gives = { λ _ e. e ≡ Memory };
+/// Why a command of the store stopped.
+pub fn stop_of(stopped: Stopped) -> Stop
+    ensures { why result ≡ why_of stopped }
+{
+    match stopped {
+        Stopped::Disk => Stop::Disk,
+        Stopped::Damaged { file, at } => Stop::Damaged { file, at },
+        Stopped::Full { length } => Stop::Full { length },
+        Stopped::NoMemory(_) => Stop::Memory,
+    }
+}
 
-    fn from(_: AllocFailed<T>) -> Self {
-        Stop::Memory
+/// Why a channel wasn't shown.
+pub fn stop_of_show(unshown: Unshown) -> Stop
+    ensures { why result ≡ why_unshown unshown }
+{
+    match unshown {
+        Unshown::Disk => Stop::Disk,
+        Unshown::Damaged { file, at } => Stop::Damaged { file, at },
+        Unshown::Reply => Stop::Reply,
+        Unshown::NoMemory => Stop::Memory,
     }
 }

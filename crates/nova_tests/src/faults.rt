@@ -1,5 +1,7 @@
 //! A source or a host that fails in the middle of a call.
-use crate::run::{READY, call, init, replied, replies_behind, run, source_of, with_store};
+use crate::run::{
+    ONE_CHANNEL, READY, call, init, replied, replies_behind, run, source_of, with_store,
+};
 use nova_mem::MemHost;
 use std::alloc::{AllocError, Global};
 use std::test::Fail;
@@ -31,6 +33,27 @@ fn failed_read_ends_behind_whole_commands(rt: HostRuntime) -> Result<(), Fail> {
         "status"
     );
     assert!(rt; replied(&host, FIRST), "replies");
+    Ok(())
+}
+
+#[test]
+fn failed_read_of_a_workflow_makes_no_store(rt: HostRuntime) -> Result<(), Fail> {
+    // the first piece ends inside the columns
+    let mut source = source_of(rt.alloc(), ONE_CHANNEL.as_bytes(), 40)?;
+    source.fail_at(1)?;
+    let mut host = MemHost::new(rt.alloc());
+    assert_eq!(rt;
+        call(rt.alloc(), "init", &mut host, &mut source)?,
+        2,
+        "status"
+    );
+    assert!(rt; host.replies().is_empty(), "replies");
+    assert!(rt; host.file(0).is_none() && host.file(1).is_none(), "files");
+    assert_eq!(rt;
+        run(rt.alloc(), &mut host, "show raw\n")?,
+        6,
+        "a later call"
+    );
     Ok(())
 }
 
@@ -107,7 +130,7 @@ fn each_failed_call_leaves_a_front_of_the_session(rt: HostRuntime) -> Result<(),
     }
     assert!(rt; is_done, "in the end no call fails");
     assert!(rt; of_files > 8, "calls on files fail");
-    assert_eq!(rt; of_replies, 7, "each of the seven reply lines fails once");
+    assert_eq!(rt; of_replies, 4, "each of the four replies fails once");
     Ok(())
 }
 

@@ -3,6 +3,10 @@ use nova_engine::nova;
 use nova_mem::{MemHost, MemSource, MemSteady};
 use std::alloc::{AllocError, Global};
 
+/// The workflow of the one channel `raw`.
+pub const ONE_CHANNEL: &str =
+    "[[channel]]\nname = \"raw\"\ncolumns = [\"id long\", \"url chararray\", \"ms long\"]\nkey = [\"id\"]\n";
+
 /// The reply to `init`, which the host of a test holds before others.
 pub const READY: &str = "ready 1 0\n";
 
@@ -39,11 +43,11 @@ pub fn run(alloc: Global, host: &mut MemHost, session: &str) -> Result<u8, Alloc
     Ok(nova(alloc, &words, &mut source, host))
 }
 
-/// `init`, over a source that fails at once, and its status.
+/// `init` on the workflow of one channel, over a source that never fails, and its status.
 pub fn init(alloc: Global, host: &mut MemHost) -> Result<u8, AllocError> {
-    let mut source = source_of(alloc, b"show raw\n", 1)?;
-    source.fail_at(0)?;
-    call(alloc, "init", host, &mut source)
+    let words = words_of(alloc, &["init"])?;
+    let mut source = MemSteady::new(ONE_CHANNEL.as_bytes().to_vec(alloc)?);
+    Ok(nova(alloc, &words, &mut source, host))
 }
 
 /// A host with a store without loads. Its replies are those to `init`.

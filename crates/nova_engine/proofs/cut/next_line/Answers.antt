@@ -1,7 +1,7 @@
 use Rattle.std.proofs.Common.{◌≡◌, ◌<◌, length, arith}
 use Rattle.std.proofs.Math.Seq.{take-length}
 use Rattle.std.proofs.lemmas.List.{take_rest}
-use Rattle.nova_raw_machine.proofs.Cuts.{has_newline-take, cut_at}
+use Rattle.nova_machine.proofs.Cuts.{has_newline-take, cut_at}
 use Rattle.nova_engine.proofs.cut.next_line.Goals as goal
 
 pub returns-then-length-bytes : goal.returns-then-length-bytes

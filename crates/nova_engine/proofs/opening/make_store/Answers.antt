@@ -1,24 +1,15 @@
-use Rattle.std.proofs.Common.{◌∙◌, ap}
-use Rattle.nova_journal.specs.Log.{frame}
-use Rattle.nova_engine.specs.Stored.{flow_text}
-use Rattle.nova_engine.proofs.OneStore.{create_stop, create_stopped, mark_stopped}
+use Rattle.nova_engine.specs.Seen.{seen}
+use Rattle.nova_engine.proofs.Making.{ready_told, refusal_told}
 use Rattle.nova_engine.proofs.opening.make_store.Goals as goal
 
-pub returns-in-Err-clause-made : goal.returns-in-Err-clause-made
-returns-in-Err-clause-made g c honest =
-    let H = g.H.Host.history in
-    let framed = c.deref.ensures.value ∙ c.in_ok-framed.ensures ∙ ap frame c.workflow_text.ensures in
-    rw c.stop_of.ensures (create_stopped c.in-Err.fault (H c.args.host.now) (H c.create.new.host) _ _ _ c.in-Err.ensures.cause framed (c.requires.unmarked honest) (c.in-Err.ensures.others honest) (c.in-Err.ensures.replies honest))
+pub returns-in-Ok-clause-told : goal.returns-in-Ok-clause-told
+returns-in-Ok-clause-told g c honest =
+    ready_told c.args.text.now (seen g.H.Host c.args.host.now) (seen g.H.Host c.init.new.host) (seen g.H.Host c.tell_ready.new.host) (c.requires.unmarked honest) c.init.ensures.bytes_read
+    c.in-Ok.store (c.in-Ok.ensures.made honest) g.H.Host.is_honest honest c.tell_ready.result c.tell_ready.ensures.told
 
-pub returns-clause-made : goal.returns-clause-made
-returns-clause-made g c honest =
-    let H = g.H.Host.history in
-    let framed = c.deref.ensures.value ∙ c.in_ok-framed.ensures ∙ ap frame c.workflow_text.ensures in
-    let holds = c.in-Ok.ensures.made honest flow_text framed in
-    rw c.stop_of-in-Err-mark.ensures (mark_stopped c.in-Err-mark.fault (H c.args.host.now) (H c.create.new.host) (H c.mark.new.host) _ _ _ c.in-Err-mark.ensures.cause holds (c.requires.unmarked honest)
-    (c.in-Ok.ensures.others honest) (rw c.in-Ok.ensures.length.1 at (c.in-Err-mark.ensures.others honest)) (c.in-Ok.ensures.replies honest) (c.in-Err-mark.ensures.replies honest))
-
-pub returns-in-Err-clause-stop : goal.returns-in-Err-clause-stop
-returns-in-Err-clause-stop g c =
-    let framed = c.deref.ensures.value ∙ c.in_ok-framed.ensures ∙ ap frame c.workflow_text.ensures in
-    rw c.stop_of.ensures (create_stop c.in-Err.fault _ _ _ c.in-Err.ensures.cause framed)
+pub returns-in-Err-Flow-clause-told : goal.returns-in-Err-Flow-clause-told
+returns-in-Err-Flow-clause-told g c honest =
+    let has = rw c.in-Err-Flow.field-0-is at c.in-Err-Flow.ensures.cause in
+    let rest = rw c.in-Err-Flow.field-0-is at (c.in-Err-Flow.ensures.made honest) in
+    refusal_told c.args.text.now (seen g.H.Host c.args.host.now) (seen g.H.Host c.init.new.host) (seen g.H.Host c.tell_refused.new.host) (c.requires.unmarked honest) c.init.ensures.bytes_read
+    c.in-Err-Flow.why has.0 rest g.H.Host.is_honest honest c.tell_refused.result c.tell_refused.ensures.told

@@ -1,0 +1,159 @@
+-- One step, and the reply that tells it.
+use Rattle.std.proofs.Common.{◌≡◌, ℕ, ◌+◌, ◌≤◌, Bool, List, [], ◌∷◌, ◌++◌, refl, sym, ap, ◌∙◌, subst, arith}
+use Rattle.std.proofs.lemmas.List.{append-nil}
+use Rattle.nova_value.specs.declared.schema.Entry.{Entry}
+use Rattle.nova_delta.specs.Merge.{DeltaValue}
+use Rattle.nova_outside.specs.History.{Event, current, replies}
+use Rattle.nova_outside.specs.Replies.{Gives, GivesInPart, HasReplied, HasRepliedInPart}
+use Rattle.nova_outside.proofs.ReplyLemmas.{replies_grow}
+use Rattle.nova_commit.specs.declared.commit.Commit.{Commit}
+use Rattle.nova_meta.specs.Catalog.{Entered, shelf_at}
+use Rattle.nova_channel.specs.Reading.{route_size}
+use Rattle.nova_script.specs.Refusals.{refusal_text}
+use Rattle.nova_script.specs.Replies as line
+use Rattle.nova_script.specs.declared.refusal.Refusal.{Refusal}
+use Rattle.nova_machine.specs.Workflow.{Workflow, channel_in}
+use Rattle.nova_machine.specs.State.{State, ended, newest}
+use Rattle.nova_machine.specs.Steps.{Step, Load, Refused, Show, after}
+use Rattle.nova_machine.specs.Replies.{reply_to}
+use Rattle.nova_machine.proofs.Turns.{flow_after}
+use Rattle.nova_runner.specs.Acts.{behind, catalog_behind, own_commit, read_size}
+use Rattle.nova_runner.specs.Held.{Held}
+use Rattle.nova_runner.specs.Stands.{Drawn, StandsBut}
+use Rattle.nova_runner.specs.Steps.{AsksLoad, AsksShow, Does, Done, HeldBack, LosesNone, Stops, StoreStands, Why, Reply, silent}
+use Rattle.nova_runner.proofs.Loading.{drawings, drawn_at}
+use Rattle.nova_runner.proofs.Shows.{current_replied, lost_replied, settled_replied, stands_replied}
+use Rattle.nova_engine.specs.Seen.{Seen}
+use Rattle.nova_engine.specs.Taking.{AsksOne, AsksRefused, StopsAsked, StopsIn, Takes, TakesAsked}
+use Rattle.nova_engine.proofs.Takings.{done_catalog, loses_both, stops_one, takes_one}
+
+-- ---- a step that only replies
+
+refused_done : (store : Held) (commits : List Commit) (s : State) (refusal : Refusal) (a b : List Event) → StoreStands store commits a s → HasReplied a b (refusal_text refusal)
+    → Done store store commits s (Refused refusal) (refusal_text refusal) a b
+refused_done store commits s refusal a b stands is = record {
+  stands = stands_replied a b (refusal_text refusal) is store commits s stands;
+  generation = refl;
+  others = λ n free. current_replied a b (refusal_text refusal) is n;
+  no_loss = lost_replied a b (refusal_text refusal) is s.flow store.catalog;
+  settled = settled_replied a b (refusal_text refusal) is store.journal.generation store.catalog;
+  replied = replies_grow a b (refusal_text refusal) is;
+  undamaged = λ file at damage. damage;
+  room = λ d e. cc;
+}
+
+refused_held : (store : Held) (commits : List Commit) (s : State) (refusal : Refusal) (a b : List Event) → StoreStands store commits a s → HasRepliedInPart a b (refusal_text refusal)
+    → HeldBack store commits s (Refused refusal) a b
+refused_held store commits s refusal a b stands part = record {
+  kept = record { stands = (stands_replied a b part.given part.replied store commits s stands).by; no_loss = lost_replied a b part.given part.replied s.flow store.catalog };
+  others = λ n free. current_replied a b part.given part.replied n;
+  given = part.given;
+  front = part.front;
+  replied = replies_grow a b part.given part.replied;
+  undamaged = λ file at damage. damage;
+  room = λ d e. cc;
+}
+
+pub refused_takes : (h : Bool) (store : Held) (refusal : Refusal) (a b : Seen) → Gives h a.history b.history (refusal_text refusal) → b.read ≡ a.read
+    → TakesAsked h (AsksOne (AsksRefused refusal)) store store a b
+refused_takes h store refusal a b gives read honest commits s xs stands asks =
+    subst (λ ys. Takes store store commits s ys a b) (sym (asks.1 ∙ ap (λ y. y ∷ []) asks.2))
+    (takes_one store store commits s (Refused refusal) a b stands (refused_done store commits s refusal a.history b.history stands (gives honest)) (omega (arith, read)))
+
+pub refused_stops : (h : Bool) (store : Held) (refusal : Refusal) (a b : Seen) → GivesInPart h a.history b.history (refusal_text refusal) → b.read ≡ a.read
+    → StopsAsked Reply h (AsksOne (AsksRefused refusal)) store a b
+refused_stops h store refusal a b gives read honest commits s xs stands asks =
+    subst (λ ys. StopsIn Reply store commits s ys a b) (sym (asks.1 ∙ ap (λ y. y ∷ []) asks.2))
+    (stops_one Reply store commits s (Refused refusal) a b stands (refused_held store commits s refusal a.history b.history stands (gives honest)) (omega (arith, read)))
+
+-- ---- a step that is told behind its commit
+
+done_replied : (store new : Held) (commits : List Commit) (s : State) (x : Step) (a m b : List Event) (bytes : List ℕ) → Done store new commits s x [] a m → HasReplied m b bytes → Done store new commits s x bytes a b
+done_replied store new commits s x a m b bytes done is = record {
+  stands = stands_replied m b bytes is new (behind commits (own_commit store.catalog s x)) (after s x) done.stands;
+  generation = done.generation;
+  others = λ n free. current_replied m b bytes is n ∙ done.others n free;
+  no_loss = loses_both s.flow s.flow store.catalog new.catalog new.catalog (current a) (current m) (current b) refl done.no_loss (lost_replied m b bytes is s.flow new.catalog);
+  settled = λ was. settled_replied m b bytes is new.journal.generation new.catalog (done.settled was);
+  replied = replies_grow m b bytes is ∙ ap (λ t. t ++ bytes) (done.replied ∙ append-nil (replies a));
+  undamaged = done.undamaged;
+  room = done.room;
+}
+
+held_replied : (store new : Held) (commits : List Commit) (s : State) (x : Step) (a m b : List Event) → StoreStands store commits a s → Done store new commits s x [] a m → HasRepliedInPart m b (reply_to s x)
+    → HeldBack store commits s x a b
+held_replied store new commits s x a m b stands done part =
+    let all = done_replied store new commits s x a m b part.given done part.replied in
+    let own = own_commit store.catalog s x in
+    let catalog = done_catalog store new commits s x [] a m stands done in
+    record {
+      kept = record {
+        stands = subst (λ g. StandsBut g (behind commits own) (catalog_behind store.catalog own) (current b) (ended (after s x))) done.generation
+            (subst (λ (c : Entered). StandsBut new.journal.generation (behind commits own) c (current b) (ended (after s x))) catalog all.stands.by);
+        no_loss = subst (λ (f : Workflow). LosesNone f store.catalog (catalog_behind store.catalog own) (current a) (current b)) (sym (flow_after s x))
+            (subst (λ (c : Entered). LosesNone s.flow store.catalog c (current a) (current b)) catalog all.no_loss);
+      };
+      others = all.others;
+      given = part.given;
+      front = part.front;
+      replied = all.replied;
+      undamaged = done.undamaged;
+      room = done.room;
+    }
+
+-- ---- a load
+
+-- the line that the code makes of a load is the machine's
+loaded_line : (store new : Held) (commits : List Commit) (a : List Event) (s : State) (c version : ℕ) (entries : List Entry) (given : List ℕ) → StoreStands store commits a s → new.flow ≡ store.flow
+    → version ≡ (shelf_at store.catalog c).version + 1 → given ≡ line.loaded (channel_in new.flow c).name version → given ≡ reply_to s (Load c entries)
+loaded_line store new commits a s c version entries given stands flow number is =
+    let newest_is : (shelf_at store.catalog c).version ≡ newest s c = ap (λ (x : Drawn). x.version) (drawn_at store.catalog (ended s) (drawings store.catalog (ended s) stands.by.agrees.same) c) in
+    is ∙ ap (λ (f : Workflow). line.loaded (channel_in f c).name version) (flow ∙ stands.flow)
+    ∙ ap (λ n. line.loaded (channel_in s.flow c).name n) (number ∙ ap (λ n. n + 1) newest_is)
+
+module _ (h : Bool) (store new : Held) (c version : ℕ) (d : DeltaValue) (given : List ℕ) (a m b : Seen)
+    (does : Does h (AsksLoad c d) silent store new a.history m.history) (flow : new.flow ≡ store.flow) (number : version ≡ (shelf_at store.catalog c).version + 1)
+    (is : given ≡ line.loaded (channel_in new.flow c).name version) (same : m.read ≡ a.read) (read : b.read ≡ m.read) where
+  pub loaded_takes : Gives h m.history b.history given → TakesAsked h (AsksOne (AsksLoad c d)) store new a b
+  loaded_takes gives honest commits s xs stands asks =
+      let entries = asks.2.0 in
+      let here = loaded_line store new commits a.history s c version entries given stands flow number is in
+      let x = asks.0 in
+      let line_is : given ≡ reply_to s x = here ∙ ap (λ y. reply_to s y) (sym asks.2.1) in
+      let done = does honest commits s x stands asks.2 in
+      let told = done_replied store new commits s x a.history m.history b.history (reply_to s x) done (subst (HasReplied m.history b.history) line_is (gives honest)) in
+      subst (λ ys. Takes store new commits s ys a b) (sym asks.1) (takes_one store new commits s x a b stands told (omega (arith, same, read)))
+
+  pub loaded_stops : GivesInPart h m.history b.history given → StopsAsked Reply h (AsksOne (AsksLoad c d)) store a b
+  loaded_stops gives honest commits s xs stands asks =
+      let entries = asks.2.0 in
+      let here = loaded_line store new commits a.history s c version entries given stands flow number is in
+      let x = asks.0 in
+      let line_is : given ≡ reply_to s x = here ∙ ap (λ y. reply_to s y) (sym asks.2.1) in
+      let done = does honest commits s x stands asks.2 in
+      let held = held_replied store new commits s x a.history m.history b.history stands done (subst (HasRepliedInPart m.history b.history) line_is (gives honest)) in
+      subst (λ ys. StopsIn Reply store commits s ys a b) (sym asks.1) (stops_one Reply store commits s x a b stands held (omega (arith, same, read)))
+
+pub stopped_load : (h : Bool) (store : Held) (c : ℕ) (d : DeltaValue) (why other : Why) (a b : Seen) → other ≡ why → Stops why h (AsksLoad c d) store a.history b.history → b.read ≡ a.read
+    → StopsAsked other h (AsksOne (AsksLoad c d)) store a b
+stopped_load h store c d why other a b is stops read honest commits s xs stands asks =
+    subst (λ w. StopsIn w store commits s xs a b) (sym is)
+    (subst (λ ys. StopsIn why store commits s ys a b) (sym asks.1) (stops_one why store commits s asks.0 a b stands (stops honest commits s asks.0 stands asks.2) (omega (arith, read))))
+
+-- ---- a show
+
+show_read : (store : Held) (s : State) (c : ℕ) (x : Step) (before now : ℕ) → x ≡ Show c → now ≤ before + route_size (shelf_at store.catalog c).intervals 0 (shelf_at store.catalog c).version → now ≤ before + read_size store.catalog x
+show_read store s c x before now is most = subst (λ y. now ≤ before + read_size store.catalog y) (sym is) most
+
+pub shown_takes : (h : Bool) (store : Held) (c : ℕ) (a b : Seen) → Does h (AsksShow c) reply_to store store a.history b.history
+    → b.read ≤ a.read + route_size (shelf_at store.catalog c).intervals 0 (shelf_at store.catalog c).version → TakesAsked h (AsksOne (AsksShow c)) store store a b
+shown_takes h store c a b does read honest commits s xs stands asks =
+    subst (λ ys. Takes store store commits s ys a b) (sym asks.1)
+    (takes_one store store commits s asks.0 a b stands (does honest commits s asks.0 stands asks.2) (show_read store s c asks.0 a.read b.read asks.2.0 read))
+
+pub shown_stops : (h : Bool) (store : Held) (c : ℕ) (why other : Why) (a b : Seen) → other ≡ why → Stops why h (AsksShow c) store a.history b.history
+    → b.read ≤ a.read + route_size (shelf_at store.catalog c).intervals 0 (shelf_at store.catalog c).version → StopsAsked other h (AsksOne (AsksShow c)) store a b
+shown_stops h store c why other a b is stops read honest commits s xs stands asks =
+    subst (λ w. StopsIn w store commits s xs a b) (sym is)
+    (subst (λ ys. StopsIn why store commits s ys a b) (sym asks.1)
+    (stops_one why store commits s asks.0 a b stands (stops honest commits s asks.0 stands asks.2) (show_read store s c asks.0 a.read b.read asks.2.0 read)))

@@ -1,0 +1,20 @@
+use Rattle.std.proofs.Common.{◌≡◌, ◌∙◌, Ok, ap, subst}
+use Rattle.nova_script.specs.declared.context.Request.TheVariants.{Show}
+use Rattle.nova_runner.specs.Around.{around_held}
+use Rattle.nova_engine.specs.Loading.{IsMet}
+use Rattle.nova_engine.specs.Seen.{seen}
+use Rattle.nova_engine.specs.Taking.{AsksMet}
+use Rattle.nova_engine.proofs.SessionLines.{answers_by, met_refused, met_shown}
+use Rattle.nova_engine.proofs.commands.answer.Goals as goal
+
+pub returns-in-Ok-Show-clause-answers : goal.returns-in-Ok-Show-clause-answers
+returns-in-Ok-Show-clause-answers g c =
+    let request : c.in-Ok-Show.field-0 ≡ Show c.in-Ok-Show.channel = rw c.in-Ok-Show.is at c.in-Ok-Show.field-0-is in
+    answers_by _ _ _ c.args.store (seen g.H.Host c.args.host.now) (seen g.H.Host c.show.new.host) c.show.result
+    (λ commits s xs stands asks. met_shown c.in-Ok-Show.channel c.args.store commits _ s xs (subst (IsMet (around_held c.args.store)) (c.in-Ok-Show.is ∙ ap Ok request) c.requires.met) stands
+    (subst (λ m. AsksMet m s xs) (c.in-Ok-Show.is ∙ ap Ok request) asks)) c.show.ensures.answers
+
+pub returns-in-Err-clause-answers : goal.returns-in-Err-clause-answers
+returns-in-Err-clause-answers g c =
+    answers_by _ _ _ c.args.store (seen g.H.Host c.args.host.now) (seen g.H.Host c.refused-in-Err.new.host) c.refused-in-Err.result
+    (λ commits s xs stands asks. met_refused c.in-Err.refusal s xs (subst (λ m. AsksMet m s xs) c.in-Err.is asks)) c.refused-in-Err.ensures.answers

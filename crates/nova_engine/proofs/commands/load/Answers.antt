@@ -1,0 +1,48 @@
+use Rattle.std.proofs.Common.{◌∙◌, ap}
+use Rattle.std.proofs.lemmas.Result.{err_from_is_err_and}
+use Rattle.nova_script.specs.Replies as line
+use Rattle.nova_engine.specs.Seen.{seen}
+use Rattle.nova_engine.proofs.Damage.{grows_both, grows_by, grows_same, in_host_read, read_more, read_replied}
+use Rattle.nova_engine.proofs.Replying.{loaded_stops, loaded_takes, stopped_load}
+use Rattle.nova_engine.proofs.commands.load.Goals as goal
+
+pub returns-in_err-send-in-Ok-clause-answers : goal.returns-in_err-send-in-Ok-clause-answers
+returns-in_err-send-in-Ok-clause-answers g c =
+    let p = err_from_is_err_and c.from_residual.result c.from_residual.ensures.1 in
+    let is = c.loaded-line.ensures ∙ ap (λ n. line.loaded n c.in-Ok.version) c.channel_name.ensures in
+    rw (p.1, p.2) (loaded_stops _ c.args.store c.in-Ok.store c.args.rows.now.channel c.in-Ok.version c.args.rows.now.delta c.loaded-line.result
+    (seen g.H.Host c.args.host.now) (seen g.H.Host c.load.new.host) (seen g.H.Host c.send.new.host)
+    c.in-Ok.ensures.step c.in-Ok.ensures.flow c.in-Ok.ensures.version is c.load.ensures.bytes_read c.send.ensures.bytes_read c.in_err-send-in-Ok.ensures.given)
+
+pub returns-in_ok-send-in-Ok-clause-answers : goal.returns-in_ok-send-in-Ok-clause-answers
+returns-in_ok-send-in-Ok-clause-answers g c =
+    let is = c.loaded-line.ensures ∙ ap (λ n. line.loaded n c.in-Ok.version) c.channel_name.ensures in
+    loaded_takes _ c.args.store c.in-Ok.store c.args.rows.now.channel c.in-Ok.version c.args.rows.now.delta c.loaded-line.result
+    (seen g.H.Host c.args.host.now) (seen g.H.Host c.load.new.host) (seen g.H.Host c.send.new.host)
+    c.in-Ok.ensures.step c.in-Ok.ensures.flow c.in-Ok.ensures.version is c.load.ensures.bytes_read c.send.ensures.bytes_read c.in_ok-send-in-Ok.ensures.given
+
+pub returns-in_ok-send-in-Ok-clause-store : goal.returns-in_ok-send-in-Ok-clause-store
+returns-in_ok-send-in-Ok-clause-store g c = record {
+  in_host = read_replied _ c.in-Ok.store (g.H.Host.history c.load.new.host) (g.H.Host.history c.send.new.host) _ c.in_ok-send-in-Ok.ensures.given
+      (read_more _ c.args.store c.in-Ok.store _ (g.H.Host.history c.args.host.now) (g.H.Host.history c.load.new.host) c.in-Ok.ensures.read c.requires.in_host);
+  flow = c.in-Ok.ensures.flow;
+}
+
+pub returns-in-Err-clause-answers : goal.returns-in-Err-clause-answers
+returns-in-Err-clause-answers g c =
+    stopped_load _ c.args.store c.args.rows.now.channel c.args.rows.now.delta _ _ (seen g.H.Host c.args.host.now) (seen g.H.Host c.load.new.host) c.stop_of.ensures c.in-Err.ensures.step c.load.ensures.bytes_read
+
+pub load-requires-clause-in_host : goal.load-requires-clause-in_host
+load-requires-clause-in_host g c = in_host_read _ c.args.store (g.H.Host.history c.args.host.now) c.requires.in_host
+
+pub returns-in_err-send-in-Ok-clause-grows : goal.returns-in_err-send-in-Ok-clause-grows
+returns-in_err-send-in-Ok-clause-grows g c honest =
+    let gave = c.in_err-send-in-Ok.ensures.given honest in
+    grows_both _ _ _ (grows_same (g.H.Host.history c.args.host.now) (g.H.Host.history c.load.new.host) (c.load.ensures.touched honest).silent) (grows_by (g.H.Host.history c.load.new.host) (g.H.Host.history c.send.new.host) gave.given gave.replied)
+
+pub returns-in_ok-send-in-Ok-clause-grows : goal.returns-in_ok-send-in-Ok-clause-grows
+returns-in_ok-send-in-Ok-clause-grows g c honest =
+    grows_both _ _ _ (grows_same (g.H.Host.history c.args.host.now) (g.H.Host.history c.load.new.host) (c.load.ensures.touched honest).silent) (grows_by (g.H.Host.history c.load.new.host) (g.H.Host.history c.send.new.host) _ (c.in_ok-send-in-Ok.ensures.given honest))
+
+pub returns-in-Err-clause-grows : goal.returns-in-Err-clause-grows
+returns-in-Err-clause-grows g c honest = grows_same (g.H.Host.history c.args.host.now) (g.H.Host.history c.load.new.host) (c.load.ensures.touched honest).silent

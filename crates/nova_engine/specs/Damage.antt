@@ -1,0 +1,44 @@
+-- What damage is told of, whatever the files stand for.
+use Rattle.std.specs.Prelude.{◌≡◌, ℕ, ◌<◌, Bool, List, ◌++◌, length, map, Some, IsTrue}
+use Rattle.nova_outside.specs.Disk.{Files}
+use Rattle.nova_outside.specs.History.{Event, current, replies}
+use Rattle.nova_journal.specs.Log.{IsLog}
+use Rattle.nova_journal.specs.Marks.{IsMark}
+use Rattle.nova_channel.specs.Reading.{IsDamage}
+use Rattle.nova_commit.specs.Commits.{commit_bytes}
+use Rattle.nova_commit.specs.declared.commit.Commit.{Commit}
+use Rattle.nova_meta.specs.Catalog.{Entered, shelf_at}
+use Rattle.nova_machine.specs.Workflow.{Workflow, schema_in}
+use Rattle.nova_runner.specs.Files.{journal_file}
+use Rattle.nova_runner.specs.Held.{Held}
+use Rattle.nova_runner.specs.Opening.{AreInOrder, IsRead}
+use Rattle.nova_script.specs.Replies as line
+
+-- The journal of the greatest mark has these commits, and they are in order: a workflow's, and what its catalog allows.
+pub record IsJournalOf (files : Files) (commits : List Commit) (flow : Workflow) (cat : Entered) : Type 0 where
+  pub generation : ℕ
+  pub marked : IsMark files (Some generation)
+  pub log : IsLog (map commit_bytes commits) (files (journal_file generation))
+  pub in_order : AreInOrder commits flow cat
+
+-- By the catalog of their journal, the first block that is none on the path to a channel's newest version is in this file, and none at this place.
+pub record IsBadBlock (files : Files) (file at : ℕ) : Type 0 where
+  pub commits : List Commit
+  pub flow : Workflow
+  pub catalog : Entered
+  pub journal : IsJournalOf files commits flow catalog
+  pub channel : ℕ
+  pub in_range : channel < length flow.channels
+  pub damage : IsDamage (schema_in flow channel) files (shelf_at catalog channel).intervals 0 (shelf_at catalog channel).version file at
+
+-- Replies were given from then on, the last of them the line that tells a file and a place, and these have this cause.
+pub record TellsDamage (Cause : ℕ → ℕ → Type 0) (a b : List Event) : Type 0 where
+  pub file : ℕ
+  pub at : ℕ
+  pub cause : Cause file at
+  pub given : List ℕ
+  pub told : replies b ≡ replies a ++ (given ++ line.damaged file at)
+
+-- a store in memory is what the journal in its host says, where that is honest
+abbrev pub IsReadIn : Bool → Held → List Event → Type 0
+IsReadIn is_honest store h = IsTrue is_honest → (commits : List Commit) × IsRead store commits (current h)

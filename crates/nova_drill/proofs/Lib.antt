@@ -1,0 +1,3 @@
+pub mod Loads
+pub mod Loading
+pub mod Giving

@@ -1,0 +1,5 @@
+pub mod Steps
+pub mod Places
+pub mod Entries
+pub mod Numbers
+pub mod Flow

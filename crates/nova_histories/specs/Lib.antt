@@ -1,0 +1,3 @@
+pub mod Planned
+pub mod Made
+pub mod Statements

@@ -5,7 +5,6 @@ ghost use Rattle.nova_pig_pattern.specs.OutputKey.{HasOutputKey};
 
 use crate::channels::{NAMES, channels, input};
 use crate::flows::letter;
-use crate::slow;
 use crate::tables::{add_row, table};
 use crate::words::{Words, number_of, read_words};
 use nova_admit::{Pattern, admit_task};
@@ -115,7 +114,12 @@ fn rows(alloc: Global, plan: &Plan, tables: &[Table]) -> Result<Vec<u8>, AllocEr
     let lent = lent(alloc, tables)?;
     let found = rows_of_nodes(alloc, &lent, plan.nodes(), plan.stored())?;
     let found = listed(alloc, &found.into_rows(alloc)?)?;
-    let slow = slow::rows_of(alloc, plan.nodes(), plan.stored(), &copied(alloc, tables)?)?;
+    let slow = nova_pig_slow::rows_of_nodes(
+        alloc,
+        &copied(alloc, tables)?,
+        plan.nodes(),
+        plan.stored(),
+    )?;
     if listed(alloc, &slow)?.as_slice() == found.as_slice() {
         Ok(found)
     } else {

@@ -5,7 +5,6 @@
 mod answers;
 mod channels;
 mod flows;
-mod slow;
 mod tables;
 mod words;
 

@@ -1,0 +1,5 @@
+pub mod Laws
+pub mod Next
+pub mod Calls
+pub mod ByKey
+pub mod Trees

@@ -1,0 +1,4 @@
+pub mod Bases
+pub mod Reading
+pub mod Admission
+pub mod Making

@@ -12,6 +12,7 @@ use Rattle.nova_commit.specs.declared.commit.Commit.{Commit}
 use Rattle.nova_commit.specs.declared.commit.Commit.TheVariants as commit
 use Rattle.nova_meta.specs.declared.wiring.Wiring.{Wiring}
 use Rattle.nova_commit.proofs.Reading.{spelled_once}
+use Rattle.nova_meta.proofs.Sound.{catalogs_are_sound}
 use Rattle.nova_machine.specs.Workflow.{Workflow}
 use Rattle.nova_runner.specs.Opening.{AreInOrder, AreTaken, IsFirstFlow, IsFirstRefused, IsRefused, IsStuck, HasCommits, HasTaken, IsStuckTold, NotReadTold, TakesCommit}
 use Rattle.nova_runner.specs.declared.opening.NotRead.{NotRead}
@@ -19,6 +20,7 @@ use Rattle.nova_runner.specs.declared.opening.NotRead.TheVariants as not_read
 use Rattle.nova_runner.specs.Texts.{HasFlow}
 use Rattle.nova_runner.specs.Workflow.{wiring_of}
 use Rattle.nova_runner.proofs.Deciding.{catalog_more}
+use Rattle.nova_runner.proofs.Flows.{tasks_known}
 use Rattle.nova_runner.proofs.Texts.{one_flow}
 use Rattle.nova_runner.proofs.Readables.{begun, readable, wired}
 
@@ -118,6 +120,7 @@ module _ (flow : Workflow) (admitted : HasFlow flow.text flow) where
           wired = wired (wiring_of flow) taken.commits cat well taken.catalog.is;
           begun = some_begun taken.commits cat taken.are taken.catalog;
           readable = readable (wiring_of flow) taken.commits cat well taken.catalog.is;
+          tasks = (catalogs_are_sound (wiring_of flow) taken.commits cat well taken.catalog.is).entered.tasks ∙ ap (λ (v : Wiring). length v.tasks) (wired (wiring_of flow) taken.commits cat well taken.catalog.is) ∙ tasks_known flow admitted;
         }
       where
         some_begun : (commits : List Commit) (cat : Entered) → first ∷ rest ≡ map commit_bytes commits → IsCatalogOf (wiring_of flow) commits cat → cat.begun ≡ true

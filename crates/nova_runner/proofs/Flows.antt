@@ -352,6 +352,10 @@ few_tasks w read =
     let same = wires_count w.tasks w.plans is.planned in
     omega (arith, few, same)
 
+pub tasks_known : (w : Workflow) → HasFlow w.text w → length (wiring_of w).tasks ≡ length w.tasks
+unfolding wiring_of
+tasks_known w read = wires_count w.tasks w.plans (flows_are_admitted w.text w read).planned
+
 -- ---- of a commit
 
 abbrev pub text_of : Commit → List ℕ

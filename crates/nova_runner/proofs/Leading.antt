@@ -29,6 +29,7 @@ use Rattle.nova_runner.specs.Laws.{LoadsLead}
 use Rattle.nova_runner.specs.Stands.{drawn, sketch, Drawn}
 use Rattle.nova_runner.specs.Workflow.{wiring_of}
 use Rattle.nova_runner.specs.declared.ready.Fresh.{Fresh}
+use Rattle.nova_runner.proofs.Flights.{bytes_ended, fresh_ended, sketch_ended}
 use Rattle.nova_runner.proofs.Flows.{free as loose, free_known, own, well_wired}
 use Rattle.nova_runner.proofs.Loading.{drawings, drawn_at, like_added, load_bytes, loaded}
 use Rattle.nova_runner.proofs.Stored.{fine}
@@ -102,12 +103,8 @@ module _ (cat : Entered) (s : State) (c : ℕ) (entries : List Entry) (delta : D
         inr (fresh, inl refl, block_is, bytes_are, long)
   ]
 
--- without executions in flight a load leaves none
-rest_stays : (s : State) (c : ℕ) (v : Version) → ended s ≡ s → ended (add_version s c v) ≡ add_version s c v
-rest_stays s c v rest = λ i. record (add_version s c v) { tasks = ap (λ (t : State). t.tasks) rest i }
-
 pub loads_lead : LoadsLead
-loads_lead x commits cat files s c entries delta fresh reached rest wired by is_made is number bytes fits allowed =
+loads_lead x commits cat files s c entries delta fresh reached wired by is_made is number bytes fits allowed =
     let input = is_made.1 in
     let taken = loaded s c entries input in
     let free : is_based cat.wiring c ≡ false = ap (λ (w : Wiring). is_based w c) wired ∙ free_known s.flow by.agrees.read c input in
@@ -117,20 +114,19 @@ loads_lead x commits cat files s c entries delta fresh reached rest wired by is_
     let v = loaded_version s c entries in
     let t = add_version s c v in
     let reached_then : IsReachable t = subst IsReachable taken (reachable_more s (Load c entries) reached is_made) in
-    let still : ended t ≡ t = rest_stays s c v rest in
     let begins = by.agrees.same in
-    let here : drawn cat ≡ sketch s = begins ∙ ap sketch rest in
+    let here : drawn cat ≡ sketch s = begins ∙ sketch_ended s in
     subst (λ (u : State). Leads cat s u (load_commit cat c delta) (fresh ∷ [])) (sym taken) (record {
       fits = fits;
       allowed = allowed;
       flow = refl;
       reached = reached_then;
-      at_rest = still;
+      flights = refl;
       like = like_added cat (ended s) c cat.next (length (spelling_of (load_block cat c delta))) v free (loose s.flow by.agrees.read c input) shelved.low begins;
-      stay = λ p named. ap (λ (u : State). bytes_of u p.content) still ∙ stay_content cat s c entries delta fresh low free input here below is number bytes p.content p.block p.size named ∙ ap (λ (u : State). bytes_of u p.content) (sym rest);
+      stay = λ p named. bytes_ended t p.content ∙ stay_content cat s c entries delta fresh low free input here below is number bytes p.content p.block p.size named ∙ sym (bytes_ended s p.content);
       named = λ p named. elim (named_content cat s c entries delta fresh low free input here below is number bytes p.content p.block p.size named) as (λ _. IsNamed cat p ⊎ IsFresh (ended t) (fresh ∷ []) p) [
         | inl old ↦ inl old
-        | inr new ↦ inr (subst (λ (u : State). IsFresh u (fresh ∷ []) p) (sym still) new)
+        | inr new ↦ inr (fresh_ended t (fresh ∷ []) p new)
       ];
       paths = λ d h one. let led = hops_have_paths (ended t) (own s.flow by.agrees.read).news (ended_reachable t reached_then) d h one in (led.0, led.2);
     })

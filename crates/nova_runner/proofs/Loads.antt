@@ -26,6 +26,7 @@ use Rattle.nova_runner.specs.Readable.{IsKept}
 use Rattle.nova_runner.specs.Stands.{drawn, sketch}
 use Rattle.nova_machine.specs.Workflow.{Workflow, is_input}
 use Rattle.nova_machine.proofs.Turns.{flow_after}
+use Rattle.nova_runner.proofs.Flights.{sketch_ended}
 use Rattle.nova_runner.proofs.Stored.{lengths}
 use Rattle.nova_runner.specs.Steps.{AsksLoad, BrokeOff, Done, IsLeft, IsShortLog, LosesNone, NoRoom, StoreStands}
 use Rattle.nova_runner.specs.declared.ready.Ready.{Ready}
@@ -57,7 +58,7 @@ module _ (store : Held) (channel : ℕ) (delta : DeltaValue) (commits : List Com
   all_lengths = lengths store.journal.generation commits store.catalog (current a) s stands.reached stands.by
 
   here : drawn store.catalog ≡ sketch s
-  here = stands.by.agrees.same ∙ ap sketch stands.at_rest
+  here = stands.by.agrees.same ∙ sketch_ended s
 
   input : is_input s.flow channel ≡ true
   input = (subst (λ (y : Step). IsMade s y) asks.1 asks.3).1
@@ -77,7 +78,7 @@ module _ (store : Held) (channel : ℕ) (delta : DeltaValue) (commits : List Com
       let wired = kept.wired ∙ ap wiring_of stands.flow in
       let in_range : channel < length store.catalog.channels = let m = (subst (λ (y : Step). IsMade s y) asks.1 asks.3).0 in let l = all_lengths in omega (arith, m, l) in
       let room = sym (load_rules store.catalog s.flow channel (length (spelling_of (load_block store.catalog channel delta))) stands.by.agrees.read input kept.begun in_range wired) ∙ allowed in
-      loads_lead store.journal.generation commits store.catalog (current a) s channel asks.0 delta fresh stands.reached stands.at_rest wired stands.by
+      loads_lead store.journal.generation commits store.catalog (current a) s channel asks.0 delta fresh stands.reached wired stands.by
       (subst (λ (y : Step). IsMade s y) asks.1 asks.3) asks.2 number bytes (load_fits store.catalog channel (length (spelling_of (load_block store.catalog channel delta))) narrow room) allowed
 
   same_flow : t.flow ≡ s.flow

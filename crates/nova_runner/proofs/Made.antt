@@ -5,7 +5,7 @@ use Rattle.nova_outside.specs.Disk.{Files, LeavesSameBut, Only, SameBut}
 use Rattle.nova_outside.specs.History.{Event, Outcome, current, replies}
 use Rattle.nova_journal.specs.Log.{IsLog, LogTo, entry, frame, length_bytes}
 use Rattle.nova_journal.proofs.Decoding.{length-length_bytes}
-use Rattle.std.proofs.lemmas.List.{length-append}
+use Rattle.std.proofs.lemmas.List.{length-append, length-map}
 use Rattle.nova_journal.specs.Marks.{Holds, IsMark, IsUnmarked}
 use Rattle.nova_commit.specs.Commits.{commit_bytes}
 use Rattle.nova_commit.specs.declared.commit.Commit.{Commit}
@@ -23,6 +23,7 @@ use Rattle.nova_machine.specs.Reachable.{IsReachable}
 use Rattle.nova_machine.proofs.Ended.{ended_reachable}
 use Rattle.nova_machine.proofs.Reached.{hops_have_paths}
 use Rattle.nova_runner.specs.Files.{IsSettled, journal_file, mark_file}
+use Rattle.nova_runner.specs.Flights.{HoldFlights, idle_slots}
 use Rattle.nova_runner.specs.Held.{Held}
 use Rattle.nova_runner.specs.Making.{HasFirst, HasNoneOrFirst, InitCause, IsMadeOrNot, Made, NoLaterMarks, NotBlank, OnlyMade, Unmade}
 use Rattle.nova_runner.specs.Readable.{IsKept}
@@ -31,7 +32,8 @@ use Rattle.nova_runner.specs.Texts.{HasFlow}
 use Rattle.nova_runner.specs.Workflow.{IsAdmitted, wires_of, wiring_of}
 use Rattle.nova_runner.specs.declared.making.InitFault.{InitFault}
 use Rattle.nova_runner.specs.declared.making.InitFault.TheVariants as init
-use Rattle.nova_runner.proofs.Flows.{flows_are_admitted}
+use Rattle.nova_runner.proofs.Flights.{idle_count, idle_hold}
+use Rattle.nova_runner.proofs.Flows.{flows_are_admitted, tasks_known}
 use Rattle.nova_runner.proofs.Texts.{of_text}
 use Rattle.nova_runner.proofs.Readables.{readable}
 
@@ -148,15 +150,15 @@ module _ (text : List ℕ) (w : Workflow) (read : HasFlow text w) where
   settled_first a b end has later n (inl (suc y, le, e)) =
       subst (λ m. Only (current b m) (Outcome b m)) (sym e) (λ c o. has.later later (suc y) (omega arith) c o ∙ sym (has.marked.1 (suc y) (omega arith)))
 
-  pub made_by : (store : Held) (a b : List Event) → store.journal.generation ≡ 0 → store.flow ≡ w → store.catalog ≡ first → HasFirst store.journal.length (commit_bytes (commit.Flow text)) a b → OnlyMade a b → Made store text a b
-  made_by store a b number flow catalog has only = record {
+  pub made_by : (store : Held) (a b : List Event) → store.journal.generation ≡ 0 → store.flow ≡ w → store.catalog ≡ first → store.flight ≡ idle_slots store.flow → HasFirst store.journal.length (commit_bytes (commit.Flow text)) a b → OnlyMade a b → Made store text a b
+  made_by store a b number flow catalog idle has only = record {
     generation = number;
     flow = subst (HasFlow text) (sym flow) read;
     kept = ap (λ (f : Workflow). f.text) flow ∙ admitted.kept;
     stands = record {
       flow = refl;
       reached = start_reachable store.flow;
-      at_rest = start_rests store.flow;
+      flights = subst (HoldFlights store.flight) (start_rests store.flow) (idle_hold store.flow store.flight (start store.flow) (start_reachable store.flow) refl idle);
       by = subst (λ (f : Workflow). StandsBut store.journal.generation (commit.Flow text ∷ []) store.catalog (current b) (ended (start f))) (sym flow)
           (subst (λ (cat : Entered). StandsBut store.journal.generation (commit.Flow text ∷ []) cat (current b) (ended (start w))) (sym catalog)
           (subst (λ x. StandsBut x (commit.Flow text ∷ []) first (current b) (ended (start w))) (sym number) (stands_first (current b) has.marked has.log.log).but));
@@ -168,12 +170,14 @@ module _ (text : List ℕ) (w : Workflow) (read : HasFlow text w) where
     only = only;
   }
 
-  pub kept_first : (held : Held) → held.flow ≡ w → held.catalog ≡ first → IsKept held
-  kept_first held flow catalog = record {
+  pub kept_first : (held : Held) → held.flow ≡ w → held.catalog ≡ first → held.flight ≡ idle_slots held.flow → IsKept held
+  kept_first held flow catalog idle = record {
     read = subst (λ (f : Workflow). HasFlow f.text f) (sym flow) (of_text text w read);
     wired = ap (λ (cat : Entered). cat.wiring) catalog ∙ ap wiring_of (sym flow);
     begun = ap (λ (cat : Entered). cat.begun) catalog;
     readable = readable (wiring_of w) (commit.Flow text ∷ []) held.catalog admitted.wiring (ap (λ (cat : Entered). Some cat) (sym catalog));
+    tasks = ap (λ (cat : Entered). length cat.tasks) catalog ∙ length-map (wiring_of w).tasks (λ (v : Wire). no_run) ∙ tasks_known w (of_text text w read) ∙ ap (λ (f : Workflow). length f.tasks) (sym flow);
+    flights = ap length idle ∙ idle_count (length held.flow.tasks);
   }
 
   pub made_or_not : (files : Files) → HasNoneOrFirst (commit_bytes (commit.Flow text)) files → IsMadeOrNot text files

@@ -1,5 +1,5 @@
 -- A store that is opened again.
-use Rattle.std.proofs.Common.{◌≡◌, ◌≢◌, inl, inr, ℕ, ◌+◌, ◌*◌, List, [], ◌∷◌, map, Some, refl, ap, sym, ◌∙◌, subst}
+use Rattle.std.proofs.Common.{◌≡◌, ◌≢◌, inl, inr, ℕ, ◌+◌, ◌*◌, List, [], ◌∷◌, length, map, Some, refl, ap, sym, ◌∙◌, subst}
 use Rattle.std.specs.Prelude.{IsSome}
 use Rattle.nova_outside.specs.Disk.{Files, Only}
 use Rattle.nova_outside.specs.History.{Event, Outcome, current}
@@ -17,8 +17,10 @@ use Rattle.nova_machine.specs.State.{State, Done, ended, landed}
 use Rattle.nova_machine.proofs.Ended.{ended_reachable}
 use Rattle.nova_machine.specs.Reachable.{IsReachable}
 use Rattle.nova_runner.specs.Files.{journal_file}
+use Rattle.nova_runner.specs.Flights.{idle_slots}
 use Rattle.nova_runner.specs.Held.{Held}
 use Rattle.nova_runner.specs.Opening.{AreInOrder, AreTaken, HasCommits, IsBadStore, IsOpenedBy, NotReadTold, Opened, UnopenedTold, unread_in}
+use Rattle.nova_runner.specs.Readable.{IsKept}
 use Rattle.nova_runner.specs.Stands.{FilesStandBut, StandsBut}
 use Rattle.nova_runner.specs.Steps.{StoreStands}
 use Rattle.nova_runner.specs.Texts.{HasFlow}
@@ -27,6 +29,7 @@ use Rattle.nova_runner.specs.declared.opening.NotRead.{NotRead}
 use Rattle.nova_runner.specs.declared.opening.NotRead.TheVariants as not_read
 use Rattle.nova_runner.proofs.Deciding.{deciding_files_decide}
 use Rattle.nova_runner.proofs.Damage.{not_bad}
+use Rattle.nova_runner.proofs.Flights.{idle_count, idle_hold}
 use Rattle.nova_runner.proofs.Flows.{text_of}
 use Rattle.nova_runner.proofs.Texts.{one_flow}
 use Rattle.nova_runner.proofs.Marks.{one_journal, one_mark, some_is}
@@ -68,7 +71,7 @@ module _ (store : Held) (payloads : List (List ℕ)) (a b : List Event)
     (holds : Holds store.journal.generation store.journal.length payloads (current b))
     (settled : Only (current a (4 * store.journal.generation)) (Outcome b (4 * store.journal.generation)))
     (same : (n : ℕ) → current b n ≡ current a n)
-    (has : HasCommits payloads store.flow store.catalog) where
+    (has : HasCommits payloads store.flow store.catalog) (idle : store.flight ≡ idle_slots store.flow) where
   abbrev pub x : ℕ
   x = store.journal.generation
 
@@ -95,7 +98,7 @@ module _ (store : Held) (payloads : List (List ℕ)) (a b : List Event)
       record {
         flow = one.flow;
         reached = ended_reachable s reached;
-        at_rest = ended_once s;
+        flights = idle_hold store.flow store.flight s reached one.flow idle;
         by = subst (λ (t : State). StandsBut x has.commits store.catalog (current b) t) (sym (ended_once s)) (deciding_files_decide x has.commits store.catalog (current a) (current b) (ended s) (λ n decides. same n) moved);
         long = long;
         settled = λ c o. settled c o ∙ sym (same (journal_file x));
@@ -124,6 +127,17 @@ module _ (store : Held) (payloads : List (List ℕ)) (a b : List Event)
     stands = stands;
     good = good;
   }
+
+-- a store that was read is kept
+pub kept_read : (store : Held) (payloads : List (List ℕ)) → HasCommits payloads store.flow store.catalog → store.flight ≡ idle_slots store.flow → IsKept store
+kept_read store payloads has idle = record {
+  read = has.read;
+  wired = has.wired;
+  begun = has.begun;
+  readable = has.readable;
+  tasks = has.tasks;
+  flights = ap length idle ∙ idle_count (length store.flow.tasks);
+}
 
 -- payloads that aren't a store's
 pub bad_store : (files : Files) (x end file : ℕ) (payloads : List (List ℕ)) (why : NotRead) → file ≡ 4 * x → IsMark files (Some x) → IsReadTo end payloads (files (4 * x)) → NotReadTold why payloads → UnopenedTold (unread_in file why) files

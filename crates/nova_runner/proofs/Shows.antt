@@ -45,7 +45,7 @@ module _ (a b : List Event) (bytes : List ℕ) (is : HasReplied a b bytes) where
   stands_replied store commits s stands = record {
     flow = stands.flow;
     reached = stands.reached;
-    at_rest = stands.at_rest;
+    flights = stands.flights;
     by = deciding_files_decide store.journal.generation commits store.catalog (current a) (current b) (ended s) (λ n decides. current_replied n) stands.by;
     long = subst (LogTo store.journal.length (map commit_bytes commits)) (sym (current_replied (journal_file store.journal.generation))) stands.long;
     settled = λ c o. stands.settled c (outcome_replied (journal_file store.journal.generation) c o) ∙ sym (current_replied (journal_file store.journal.generation));

@@ -72,9 +72,9 @@ tick_readable cat m is = record {
   shelved = is.shelved;
 }
 
-pub tick_kept : (store : Held) (m : ℕ) (journal : Extent) (cat : Entered) → IsKept store → cat ≡ applied store.catalog (commit.Tick m) → IsKept (record { journal = journal; flow = store.flow; catalog = cat })
-tick_kept store m journal cat kept is = subst (λ (k : Entered). IsKept (record { journal = journal; flow = store.flow; catalog = k })) (sym is)
-    (record { read = kept.read; wired = kept.wired; begun = kept.begun; readable = tick_readable store.catalog m kept.readable })
+pub tick_kept : (store : Held) (m : ℕ) (journal : Extent) (cat : Entered) → IsKept store → cat ≡ applied store.catalog (commit.Tick m) → IsKept (record { journal = journal; flow = store.flow; catalog = cat; flight = store.flight })
+tick_kept store m journal cat kept is = subst (λ (k : Entered). IsKept (record { journal = journal; flow = store.flow; catalog = k; flight = store.flight })) (sym is)
+    (record { read = kept.read; wired = kept.wired; begun = kept.begun; readable = tick_readable store.catalog m kept.readable; tasks = kept.tasks; flights = kept.flights })
 
 -- a tick brings no blocks
 pub none_spare : (cat : Entered) (m : ℕ) → AreSpare cat (commit.Tick m) []
@@ -93,17 +93,16 @@ all_left h = record { reads = λ n free. refl; leaves = λ n free. ((λ c o. o),
 
 -- the commit of a tick leads to the state behind it
 pub ticks_lead : TicksLead
-ticks_lead x commits cat files s m reached rest by is_made wide allowed =
+ticks_lead x commits cat files s m reached by is_made wide allowed =
     let taken = ticked s m is_made.0 in
     let t : State = record s { moment = m } in
     let reached_then : IsReachable t = subst IsReachable taken (reachable_more s (Tick m) reached is_made) in
-    let still : ended t ≡ t = λ i. record t { tasks = ap (λ (u : State). u.tasks) rest i } in
     subst (λ (u : State). Leads cat s u (commit.Tick m) []) (sym taken) (record {
       fits = wide;
       allowed = allowed;
       flow = refl;
       reached = reached_then;
-      at_rest = still;
+      flights = refl;
       like = like_ticked cat (ended s) m by.agrees.same;
       stay = λ p named. bytes_same s m p.content;
       named = λ p named. inl (named_same cat m p.content p.block p.size named);
@@ -131,7 +130,7 @@ module _ (store : Held) (m : ℕ) (commits : List Commit) (s : State) (x : Step)
 
   pub leads : StoreStands store commits a s → m < 2 ^ 64 → allows store.catalog (commit.Tick m) ≡ true → Leads store.catalog s (after s (Tick m)) (commit.Tick m) []
   leads stands wide allowed =
-      ticks_lead store.journal.generation commits store.catalog (current a) s m stands.reached stands.at_rest stands.by
+      ticks_lead store.journal.generation commits store.catalog (current a) s m stands.reached stands.by
       (subst (λ (y : Step). IsMade s y) asks.0 asks.1) wide allowed
 
   -- the journal with its record

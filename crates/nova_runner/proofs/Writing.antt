@@ -24,6 +24,7 @@ use Rattle.nova_runner.specs.Steps.{IsKeptBy, IsLeft, LosesNone, StoreStands}
 use Rattle.nova_runner.specs.Workflow.{wiring_of}
 use Rattle.nova_runner.specs.declared.ready.Fresh.{Fresh}
 use Rattle.nova_runner.proofs.Deciding.{catalog_more, commits_lead, deciding_files_decide, lost_same, rebuilt}
+use Rattle.nova_runner.proofs.Flights.{hold_on}
 use Rattle.nova_runner.proofs.Stored.{stored_is_not_lost}
 
 since_now : (h : List Event) (t : ℕ) (image : Files) (said : List ℕ) → LeftNow h image said → Since h t image said
@@ -148,7 +149,7 @@ module _ (store : Held) (commits : List Commit) (own : Commit) (fresh : List Fre
         ]
 
     module _ (new : Held) (leaves : LeavesSameBut (4 * x) (Outcome m) (Outcome b)) (put : ArePut fresh m)
-        (flow : new.flow ≡ store.flow) (cat : new.catalog ≡ applied store.catalog own) (number : new.journal.generation ≡ x)
+        (flow : new.flow ≡ store.flow) (flight : new.flight ≡ store.flight) (cat : new.catalog ≡ applied store.catalog own) (number : new.journal.generation ≡ x)
         (holds : Holds x new.journal.length (map commit_bytes commits ++ commit_bytes own ∷ []) (current b))
         (only : Only (current b (4 * x)) (Outcome b (4 * x))) where
       settles : IsSettled x store.catalog a → (n : ℕ) → Decides x (applied store.catalog own) n → Only (current b n) (Outcome b n)
@@ -182,7 +183,7 @@ module _ (store : Held) (commits : List Commit) (own : Commit) (fresh : List Fre
             stands = record {
               flow = flow ∙ stands.flow ∙ sym leads.flow;
               reached = leads.reached;
-              at_rest = leads.at_rest;
+              flights = hold_on store.flight new.flight s t flight stands.flights leads.flights;
               by = subst (λ y. StandsBut y (commits ++ own ∷ []) new.catalog (current b) (ended t)) (sym number) (subst (λ k. StandsBut x (commits ++ own ∷ []) k (current b) (ended t)) (sym cat) (led put log.log));
               long = subst (λ y. LogTo new.journal.length (map commit_bytes (commits ++ own ∷ [])) (current b (journal_file y))) (sym number) log;
               settled = subst (λ y. Only (current b (journal_file y)) (Outcome b (journal_file y))) (sym number) only;

@@ -18,6 +18,7 @@ use Rattle.nova_machine.specs.Needed.{hops}
 use Rattle.nova_machine.specs.Reachable.{IsReachable}
 use Rattle.nova_runner.specs.Acts.{LeavesOthers, brought, load_block, load_commit}
 use Rattle.nova_runner.specs.Files.{Piece, IsNamed, IsSettled, bytes_of}
+use Rattle.nova_runner.specs.Flights.{flights_of}
 use Rattle.nova_runner.specs.Held.{Held}
 use Rattle.nova_runner.specs.Opening.{IsRead}
 use Rattle.nova_runner.specs.Readable.{IsReadable}
@@ -33,13 +34,13 @@ number_of f = f.block
 abbrev pub IsFresh : State → List Fresh → Piece → Type 0
 IsFresh t fresh p = (f : Fresh) × IsOneOf fresh f × (f.block ≡ p.block) × (f.bytes.items ≡ bytes_of t p.content) × (p.size ≡ length f.bytes.items)
 
--- From a state s that has this catalog a commit leads to t. It is in order, and its catalog draws t; what was named has the same bytes in t; what it names anew are these blocks with the bytes of t; and each hop of t has a path.
+-- From a state s that has this catalog a commit leads to t. It is in order, and its catalog draws t; what was named has the same bytes in t; what it names anew are these blocks with the bytes of t; and each hop of t has a path. What is in flight stays so.
 pub record Leads (cat : Entered) (s t : State) (own : Commit) (fresh : List Fresh) : Type 0 where
   pub fits : Fits own
   pub allowed : allows cat own ≡ true
   pub flow : t.flow ≡ s.flow
   pub reached : IsReachable t
-  pub at_rest : ended t ≡ t
+  pub flights : flights_of t ≡ flights_of s
   pub like : drawn (applied cat own) ≡ sketch (ended t)
   pub stay : (p : Piece) → IsNamed cat p → bytes_of (ended t) p.content ≡ bytes_of (ended s) p.content
   pub named : (p : Piece) → IsNamed (applied cat own) p → IsNamed cat p ⊎ IsFresh (ended t) fresh p

@@ -69,7 +69,7 @@ NoStepDamage = (x : ℕ) (commits : List Commit) (cat : Entered) (files : Files)
 -- the commit of a load leads to the state behind it
 abbrev pub LoadsLead : Type 0
 LoadsLead = (x : ℕ) (commits : List Commit) (cat : Entered) (files : Files) (s : State) (c : ℕ) (entries : List Entry) (delta : DeltaValue) (fresh : Fresh) →
-    IsReachable s → ended s ≡ s → cat.wiring ≡ wiring_of s.flow → StandsBut x commits cat files (ended s) → IsMade s (Load c entries)
+    IsReachable s → cat.wiring ≡ wiring_of s.flow → StandsBut x commits cat files (ended s) → IsMade s (Load c entries)
     → delta ≡ record { schema = schema_in s.flow c; entries = load_delta (schema_in s.flow c) entries }
     → fresh.block ≡ cat.next → fresh.bytes.items ≡ spelling_of (load_block cat c delta)
     → Fits (load_commit cat c delta) → allows cat (load_commit cat c delta) ≡ true
@@ -78,5 +78,5 @@ LoadsLead = (x : ℕ) (commits : List Commit) (cat : Entered) (files : Files) (s
 -- the commit of a tick leads to the state behind it, and brings no blocks
 abbrev pub TicksLead : Type 0
 TicksLead = (x : ℕ) (commits : List Commit) (cat : Entered) (files : Files) (s : State) (m : ℕ) →
-    IsReachable s → ended s ≡ s → StandsBut x commits cat files (ended s) → IsMade s (Tick m) → m < 2 ^ 64 → allows cat (commit.Tick m) ≡ true
+    IsReachable s → StandsBut x commits cat files (ended s) → IsMade s (Tick m) → m < 2 ^ 64 → allows cat (commit.Tick m) ≡ true
     → Leads cat s (after s (Tick m)) (commit.Tick m) []

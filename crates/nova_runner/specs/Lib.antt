@@ -1,6 +1,7 @@
 pub mod Held
 pub mod Texts
 pub mod Workflow
+pub mod Flights
 pub mod Around
 pub mod Files
 pub mod Readable

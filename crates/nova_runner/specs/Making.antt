@@ -11,6 +11,7 @@ use Rattle.nova_meta.specs.Catalog.{Entered, applied, blank}
 use Rattle.nova_machine.specs.Workflow.{Workflow}
 use Rattle.nova_machine.specs.State.{ended, start}
 use Rattle.nova_runner.specs.Files.{IsSettled, journal_file, mark_file}
+use Rattle.nova_runner.specs.Flights.{idle_slots}
 use Rattle.nova_runner.specs.Held.{Held}
 use Rattle.nova_runner.specs.Stands.{FilesStand, StandsBut}
 use Rattle.nova_runner.specs.Steps.{StoreStands}
@@ -70,6 +71,7 @@ pub record IsBlank (text : List ℕ) (made : Blank) : Type 0 where
   pub flow : HasFlow text made.flow
   pub framed : made.framed.items ≡ frame (commit_bytes (commit.Flow text))
   pub catalog : made.catalog ≡ applied (blank (wiring_of made.flow)) (commit.Flow text)
+  pub flight : made.flight ≡ idle_slots made.flow
   pub short : length made.framed.items < 2 ^ 62
 
 abbrev pub NotBlank : List ℕ → InitFault → Type 0

@@ -179,6 +179,7 @@ pub record HasCommits (payloads : List (List ℕ)) (flow : Workflow) (cat : Ente
   pub wired : cat.wiring ≡ wiring_of flow
   pub begun : cat.begun ≡ true
   pub readable : IsReadable cat
+  pub tasks : length cat.tasks ≡ length flow.tasks
 
 abbrev pub NotReadTold : NotRead → List (List ℕ) → Type 0
 NotReadTold (not_read.At at) payloads = (payloads ≡ []) ⊎ IsFirstRefused at payloads

@@ -19,9 +19,11 @@ pub record IsReadable (cat : Entered) : Type 0 where
   pub many : length cat.channels ≡ length cat.wiring.writers
   pub shelved : (c : ℕ) → IsShelved (shelf_at cat c)
 
--- A store's catalog is that of its workflow, and readable.
+-- A store's catalog is that of its workflow, and readable; it has what is kept of each task, and a slot for each.
 pub record IsKept (held : Held) : Type 0 where
   pub read : HasFlow held.flow.text held.flow
   pub wired : held.catalog.wiring ≡ wiring_of held.flow
   pub begun : held.catalog.begun ≡ true
   pub readable : IsReadable held.catalog
+  pub tasks : length held.catalog.tasks ≡ length held.flow.tasks
+  pub flights : length held.flight ≡ length held.flow.tasks

@@ -19,16 +19,17 @@ use Rattle.nova_machine.specs.Reachable.{IsMade, IsReachable}
 use Rattle.nova_machine.specs.Replies.{reply_to}
 use Rattle.nova_runner.specs.Acts.{IsFull, IsStepDamage, LeavesOthers, behind, catalog_behind, own_commit}
 use Rattle.nova_runner.specs.Files.{IsNamed, IsSettled, Piece, journal_file}
+use Rattle.nova_runner.specs.Flights.{HoldFlights}
 use Rattle.nova_runner.specs.Stands.{StandsBut, IsLost}
 use Rattle.nova_runner.specs.Held.{Held}
 use Rattle.nova_runner.specs.declared.stop.Stopped.{Stopped as StoppedCall}
 use Rattle.nova_runner.specs.declared.stop.Stopped.TheVariants as stopped
 
--- A store in memory stands for a state, in this host, by these commits, but for lost blocks. Nothing is pending on its journal, and nothing is in flight: a store holds no executions yet.
+-- A store in memory stands for a state, in this host, by these commits, but for lost blocks. Nothing is pending on its journal. The files know of no execution in flight: those of the state are in memory alone.
 pub record StoreStands (store : Held) (commits : List Commit) (h : List Event) (s : State) : Type 0 where
   pub flow : store.flow ≡ s.flow
   pub reached : IsReachable s
-  pub at_rest : ended s ≡ s
+  pub flights : HoldFlights store.flight s
   pub by : StandsBut store.journal.generation commits store.catalog (current h) (ended s)
   pub long : LogTo store.journal.length (map commit_bytes commits) (current h (journal_file store.journal.generation))
   pub settled : Only (current h (journal_file store.journal.generation)) (Outcome h (journal_file store.journal.generation))

@@ -50,6 +50,7 @@ impl Store {
         ensures touched { IsTrue H.is_honest → (own : Commit) → IsReady self own ready → AreSpare self.catalog own fresh.now → Touched self own (H.history host.old) (H.history host.new) }
         ensures catalog { IfOk result (λ new. (own : Commit) → IsReady self own ready → new.catalog ≡ applied self.catalog own) }
         ensures flow { IfOk result (λ new. new.flow ≡ self.flow) }
+        ensures flight { IfOk result (λ new. new.flight ≡ self.flight) }
         ensures journal { IfOk result (λ new. (new.journal.generation ≡ self.journal.generation) × (new.journal.length ≡ self.journal.length + length ready.framed.items)) }
         ensures in_host { IfOk result (λ new. InHost H.is_honest new (H.history host.new)) }
         ensures cause { HasCause (H.disk_faults host.old) (H.disk_faults host.new) result }
@@ -61,6 +62,7 @@ impl Store {
             journal,
             flow,
             mut catalog,
+            flight,
         } = self;
         let Ready { framed, prepared } = ready;
         match journal.append(host, &framed) {
@@ -70,6 +72,7 @@ impl Store {
                     journal,
                     flow,
                     catalog,
+                    flight,
                 })
             }
             Err(_) => Err(Failed),

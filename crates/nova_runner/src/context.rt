@@ -22,9 +22,8 @@ impl Context for Store {
         self.flow.has_writer(channel)
     }
 
-    // A store holds no executions yet.
-    fn is_in_flight(&self, _: u32) -> bool {
-        false
+    fn is_in_flight(&self, task: u32) -> bool {
+        self.flight.is_in_flight(task)
     }
 
     fn moment(&self) -> u64 {

@@ -101,6 +101,7 @@ impl Store {
         ensures touched { IsTrue H.is_honest → Touched self (load_commit self.catalog channel delta.now) (H.history host.old) (H.history host.new) }
         ensures in_host { IfOk result (λ made. InHost H.is_honest made.0 (H.history host.new)) }
         ensures flow { IfOk result (λ made. made.0.flow ≡ self.flow) }
+        ensures flight { IfOk result (λ made. made.0.flight ≡ self.flight) }
         ensures version { IfOk result (λ made. made.1 ≡ (shelf_at self.catalog channel).version + 1) }
         // Full exactly where its commit has no room, before any memory is taken and any file is called.
         ensures full { IfErr result (λ stop. IsStopFull stop → IsFull self.journal.length self.catalog (load_commit self.catalog channel delta.now)) }

@@ -4,6 +4,7 @@ ghost use Rattle.nova_outside.specs.Causes.{HasCause};
 ghost use Rattle.nova_outside.specs.History.{current};
 ghost use Rattle.nova_journal.specs.Log.{IsFrame, frame};
 ghost use Rattle.nova_journal.specs.Marks.{IsIn, IsUnmarked};
+ghost use Rattle.nova_runner.specs.Flights.{idle_slots};
 ghost use Rattle.nova_runner.specs.Making.{HasFirst, HasNoneOrFirst, InitCause, IsBlank, Makes, NotBlank, OnlyMade, Unmakes};
 ghost use Rattle.nova_meta.specs.Catalog.{applied, blank};
 ghost use Rattle.nova_runner.specs.Steps.{InHost};
@@ -18,6 +19,7 @@ use crate::workflow::{Workflow, copied, read_flow};
 use nova_journal::{Journal, frame};
 use nova_meta::{Catalog, Commit, encode_commit};
 use nova_outside::{Failed, Host};
+use nova_trigger::InFlight;
 use std::alloc::{AllocError, Global};
 
 /// Why a store wasn't made.
@@ -42,6 +44,7 @@ impl From<AllocError> for InitFault {
 pub struct Blank {
     pub flow: Workflow,
     pub catalog: Catalog,
+    pub flight: InFlight,
     /// The frame of the workflow's commit.
     pub framed: Vec<u8>,
 }
@@ -74,9 +77,11 @@ fn blank_store(alloc: Global, text: &[u8]) -> Result<Blank, InitFault>
     let catalog = first_catalog(alloc, &flow, &commit)?;
     let payload = encode_commit(alloc, &commit)?;
     let framed = frame(alloc, &payload)?;
+    let flight = InFlight::new(alloc, flow.task_count())?;
     Ok(Blank {
         flow,
         catalog,
+        flight,
         framed,
     })
 }
@@ -114,6 +119,7 @@ impl Store {
             (Makes H.is_honest text.now (H.history host.old) (H.history host.new))
             (Unmakes H.is_honest text.now (H.history host.old) (H.history host.new)) }
         ensures flow { IfOk result (λ store. HasFlow text.now store.flow) }
+        ensures idle { IfOk result (λ store. store.flight ≡ idle_slots store.flow) }
         ensures in_host { IfOk result (λ store. InHost H.is_honest store (H.history host.new)) }
         ensures cause { IfErr result (InitCause (H.disk_faults host.old) (H.disk_faults host.new) text.now) }
         ensures later { H.disk_faults host.old ≤ H.disk_faults host.new }
@@ -123,6 +129,7 @@ impl Store {
         let Blank {
             flow,
             catalog,
+            flight,
             framed,
         } = blank_store(alloc, text)?;
         match make(host, &framed) {
@@ -130,6 +137,7 @@ impl Store {
                 journal,
                 flow,
                 catalog,
+                flight,
             }),
             Err(_) => Err(InitFault::Disk),
         }

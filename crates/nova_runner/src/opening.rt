@@ -8,6 +8,7 @@ ghost use Rattle.nova_meta.specs.Catalog.{Entered, applied, allows, blank};
 ghost use Rattle.nova_commit.specs.Commits.{Fits, commit_bytes};
 ghost use Rattle.nova_commit.specs.declared.commit.Commit.{Commit as Committed};
 ghost use Rattle.nova_runner.specs.Files.{journal_file, mark_file};
+ghost use Rattle.nova_runner.specs.Flights.{idle_slots};
 ghost use Rattle.nova_runner.specs.Opening.{HasCommits, HasTaken, IsFlowIn, IsSaid, IsStuckTold, IsFirstFlow, NoBadStore, NoStoreThere, NotReadTold, OneBadStore, OpenCause, Opens, TakesCommit, UnopenedTold, unopened_by, unread_in};
 ghost use Rattle.nova_meta.specs.Wired.{IsWiring};
 ghost use Rattle.nova_runner.specs.Steps.{InHost};
@@ -22,6 +23,7 @@ use crate::workflow::{Workflow, read_flow};
 use nova_journal::{Journal, LogFault, Payload};
 use nova_meta::{Catalog, Commit, MetaFault, Wiring, decode_commit};
 use nova_outside::Host;
+use nova_trigger::InFlight;
 use std::alloc::{AllocError, AllocFailed, Global};
 
 /// Why a store wasn't opened.
@@ -173,6 +175,17 @@ fn read_commits(alloc: Global, payloads: &[Payload]) -> Result<(Workflow, Catalo
     Ok((flow, catalog))
 }
 
+/// The same, with nothing in flight.
+fn read_store(alloc: Global, payloads: &[Payload]) -> Result<(Workflow, Catalog, InFlight), NotRead>
+    requires placed { IsPlaced 0 payloads.now }
+    ensures read { MatchResult result (λ p. HasCommits (payloads_of payloads.now) p.0 p.1) (λ why. NotReadTold why (payloads_of payloads.now)) }
+    ensures idle { IfOk result (λ p. p.2 ≡ idle_slots p.0) }
+{
+    let (flow, catalog) = read_commits(alloc, payloads)?;
+    let flight = InFlight::new(alloc, flow.task_count())?;
+    Ok((flow, catalog, flight))
+}
+
 /// Files without a mark are no store. Those of the newest mark are a store's, or damaged at one place,
 /// and never both.
 pub fn bad_stores()
@@ -188,6 +201,7 @@ impl Store {
             (λ store. Opens H.is_honest store (H.history host.old) (H.history host.new))
             (λ why. IsTrue H.is_honest → UnopenedTold why (current (H.history host.old))) }
         ensures in_host { IfOk result (λ store. InHost H.is_honest store (H.history host.new)) }
+        ensures idle { IfOk result (λ store. store.flight ≡ idle_slots store.flow) }
         // Nothing is pending on its journal and on its mark.
         ensures settled { IsTrue H.is_honest → IfOk result (λ store. Only (current (H.history host.old) (journal_file store.journal.generation)) (Outcome (H.history host.new) (journal_file store.journal.generation))) }
         ensures mark_settled { IsTrue H.is_honest → IfOk result (λ store. Only (current (H.history host.old) (mark_file store.journal.generation)) (Outcome (H.history host.new) (mark_file store.journal.generation))) }
@@ -205,11 +219,12 @@ impl Store {
             Ok(found) => found,
             Err(fault) => return Err(unopened(fault)),
         };
-        match read_commits(alloc, payloads.as_slice()) {
-            Ok((flow, catalog)) => Ok(Store {
+        match read_store(alloc, payloads.as_slice()) {
+            Ok((flow, catalog, flight)) => Ok(Store {
                 journal,
                 flow,
                 catalog,
+                flight,
             }),
             Err(why) => Err(unread(4 * journal.generation(), why)),
         }

@@ -2,14 +2,17 @@
 use crate::workflow::Workflow;
 use nova_journal::Journal;
 use nova_meta::Catalog;
+use nova_trigger::InFlight;
 use std::marker::Model;
 
-/// The open journal, the workflow and the catalog: no table is in memory.
+/// The open journal, the workflow, the catalog and the executions in flight: no table is in memory.
 #[derive(Drop)]
 pub struct Store {
     pub(crate) journal: Journal,
     pub(crate) flow: Workflow,
     pub(crate) catalog: Catalog,
+    /// They end with the store: no file has them.
+    pub(crate) flight: InFlight,
 }
 
 impl Model for Store {
@@ -23,7 +26,7 @@ impl Model for Store {
 
     ghost coded = { Prim.hlevel (codes, e.the_row.coded) };
 
-    ghost view = { λ s. record { journal = s.journal; flow = s.flow; catalog = s.catalog } };
+    ghost view = { λ s. record { journal = s.journal; flow = s.flow; catalog = s.catalog; flight = s.flight } };
 
-    ghost invariant = { λ s. IsKept (record { journal = s.journal; flow = s.flow; catalog = s.catalog }) };
+    ghost invariant = { λ s. IsKept (record { journal = s.journal; flow = s.flow; catalog = s.catalog; flight = s.flight }) };
 }

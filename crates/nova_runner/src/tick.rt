@@ -36,6 +36,7 @@ impl Store {
         ensures touched { IsTrue H.is_honest → Touched self (commit.Tick moment) (H.history host.old) (H.history host.new) }
         ensures in_host { IfOk result (λ new. InHost H.is_honest new (H.history host.new)) }
         ensures flow { IfOk result (λ new. new.flow ≡ self.flow) }
+        ensures flight { IfOk result (λ new. new.flight ≡ self.flight) }
         ensures clock { IfOk result (λ new. new.catalog ≡ applied self.catalog (commit.Tick moment)) }
         // Full exactly where its commit has no room, before any file is called.
         ensures full { IfErr result (λ stop. IsStopFull stop → IsFull self.journal.length self.catalog (commit.Tick moment)) }
@@ -53,6 +54,7 @@ impl Store {
             journal,
             flow,
             mut catalog,
+            flight,
         } = self;
         match journal.append(host, framed.as_slice()) {
             Ok(journal) => {
@@ -61,6 +63,7 @@ impl Store {
                     journal,
                     flow,
                     catalog,
+                    flight,
                 })
             }
             Err(fault) => Err(stopped_by(fault)),

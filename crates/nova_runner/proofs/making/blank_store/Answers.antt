@@ -1,7 +1,8 @@
-use Rattle.std.proofs.Common.{ℕ, List, ap, sym, ◌∙◌, subst, ◌<◌, ◌^◌, length}
+use Rattle.std.proofs.Common.{ℕ, List, Option, None, ap, sym, ◌∙◌, subst, ◌<◌, ◌^◌, length, replicate}
 use Rattle.nova_journal.specs.Log.{frame}
 use Rattle.nova_commit.specs.Commits.{commit_bytes}
 use Rattle.nova_commit.specs.declared.commit.Commit.TheVariants as commit
+use Rattle.nova_meta.specs.declared.captured.Captured.{Captured}
 use Rattle.nova_runner.specs.Texts.{HasFlow, Says}
 use Rattle.nova_runner.proofs.Made.{short_first}
 use Rattle.nova_runner.proofs.making.blank_store.Goals as goal
@@ -15,5 +16,6 @@ returns c =
       flow = read;
       framed = framed;
       catalog = c.in_ok-catalog.ensures;
+      flight = c.in_ok-flight.ensures ∙ ap (λ n. let none : Option Captured = None in replicate n none) c.task_count.ensures;
       short = subst (λ (bs : List ℕ). length bs < 2 ^ 62) (sym framed) (short_first c.args.text.now c.in-Ok.flow read);
     }

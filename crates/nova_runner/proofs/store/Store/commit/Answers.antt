@@ -23,14 +23,14 @@ returns-in-Ok-clause-touched g c honest own ready spare =
     let e = c.self.view_is in
     let spare_now = subst (λ (k : Held). AreSpare k.catalog own c.args.fresh.now) (sym e) spare in
     subst (λ (k : Held). Touched k own (g.H.Host.history c.args.host.now) (g.H.Host.history c.append.new.host)) e
-    (touched (record { journal = c.self.inside.journal; flow = c.self.inside.flow; catalog = c.self.inside.catalog }) own c.args.fresh.now spare_now _ _ _ (c.put_all.ensures.others honest) (c.put_all.ensures.replies honest) (c.append.ensures.others honest) (c.append.ensures.replies honest))
+    (touched (record { journal = c.self.inside.journal; flow = c.self.inside.flow; catalog = c.self.inside.catalog; flight = c.self.inside.flight }) own c.args.fresh.now spare_now _ _ _ (c.put_all.ensures.others honest) (c.put_all.ensures.replies honest) (c.append.ensures.others honest) (c.append.ensures.replies honest))
 
 pub returns-in-Err-clause-touched : goal.returns-in-Err-clause-touched
 returns-in-Err-clause-touched g c honest own ready spare =
     let e = c.self.view_is in
     let spare_now = subst (λ (k : Held). AreSpare k.catalog own c.args.fresh.now) (sym e) spare in
     subst (λ (k : Held). Touched k own (g.H.Host.history c.args.host.now) (g.H.Host.history c.append.new.host)) e
-    (touched (record { journal = c.self.inside.journal; flow = c.self.inside.flow; catalog = c.self.inside.catalog }) own c.args.fresh.now spare_now _ _ _ (c.put_all.ensures.others honest) (c.put_all.ensures.replies honest) (c.append.ensures.others honest) (c.append.ensures.replies honest))
+    (touched (record { journal = c.self.inside.journal; flow = c.self.inside.flow; catalog = c.self.inside.catalog; flight = c.self.inside.flight }) own c.args.fresh.now spare_now _ _ _ (c.put_all.ensures.others honest) (c.put_all.ensures.replies honest) (c.append.ensures.others honest) (c.append.ensures.replies honest))
 
 pub returns-in-Ok-clause-adds : goal.returns-in-Ok-clause-adds
 returns-in-Ok-clause-adds g c own ready spare honest commits s t stands leads =
@@ -38,8 +38,8 @@ returns-in-Ok-clause-adds g c own ready spare honest commits s t stands leads =
     let H0 = g.H.Host.history c.args.host.now in
     let H1 = g.H.Host.history c.put_all.new.host in
     let H2 = g.H.Host.history c.append.new.host in
-    let old : Held = record { journal = c.self.inside.journal; flow = c.self.inside.flow; catalog = c.self.inside.catalog } in
-    let new : Held = record { journal = c.in-Ok.journal; flow = c.self.inside.flow; catalog = c.apply.new.self } in
+    let old : Held = record { journal = c.self.inside.journal; flow = c.self.inside.flow; catalog = c.self.inside.catalog; flight = c.self.inside.flight } in
+    let new : Held = record { journal = c.in-Ok.journal; flow = c.self.inside.flow; catalog = c.apply.new.self; flight = c.self.inside.flight } in
     let fresh = c.args.fresh.now in
     let puts = c.put_all.ensures.others honest in
     let put = c.in_ok-put_all.ensures.put honest in
@@ -51,7 +51,7 @@ returns-in-Ok-clause-adds g c own ready spare honest commits s t stands leads =
     let holds = c.in-Ok.ensures.added honest (map commit_bytes commits) (commit_bytes own) (still_holds old commits own fresh s t H0 H1 stands_now leads_now spare_now puts) framed in
     subst (λ (k : Held). Added k new commits own t H0 H2) e
     (added old commits own fresh s t H0 H1 stands_now leads_now spare_now puts H2 (c.in-Ok.ensures.others honest) new (c.in-Ok.ensures.crash_others honest) put
-    refl (c.apply.ensures own ready_now.prepared) c.in-Ok.ensures.length.1 holds (c.in-Ok.ensures.settled honest))
+    refl refl (c.apply.ensures own ready_now.prepared) c.in-Ok.ensures.length.1 holds (c.in-Ok.ensures.settled honest))
 
 pub returns-in-Err-clause-adds : goal.returns-in-Err-clause-adds
 returns-in-Err-clause-adds g c own ready spare honest commits s t stands leads =
@@ -59,7 +59,7 @@ returns-in-Err-clause-adds g c own ready spare honest commits s t stands leads =
     let H0 = g.H.Host.history c.args.host.now in
     let H1 = g.H.Host.history c.put_all.new.host in
     let H2 = g.H.Host.history c.append.new.host in
-    let old : Held = record { journal = c.self.inside.journal; flow = c.self.inside.flow; catalog = c.self.inside.catalog } in
+    let old : Held = record { journal = c.self.inside.journal; flow = c.self.inside.flow; catalog = c.self.inside.catalog; flight = c.self.inside.flight } in
     let fresh = c.args.fresh.now in
     let puts = c.put_all.ensures.others honest in
     let put = c.in_ok-put_all.ensures.put honest in
@@ -88,8 +88,8 @@ returns-in-Ok-clause-read g c own fits ready honest commits read =
     let H0 = g.H.Host.history c.args.host.now in
     let H1 = g.H.Host.history c.put_all.new.host in
     let H2 = g.H.Host.history c.append.new.host in
-    let old : Held = record { journal = c.self.inside.journal; flow = c.self.inside.flow; catalog = c.self.inside.catalog } in
-    let new : Held = record { journal = c.in-Ok.journal; flow = c.self.inside.flow; catalog = c.apply.new.self } in
+    let old : Held = record { journal = c.self.inside.journal; flow = c.self.inside.flow; catalog = c.self.inside.catalog; flight = c.self.inside.flight } in
+    let new : Held = record { journal = c.in-Ok.journal; flow = c.self.inside.flow; catalog = c.apply.new.self; flight = c.self.inside.flight } in
     let fresh = c.args.fresh.now in
     let puts = c.put_all.ensures.others honest in
     let read_now = subst (λ (k : Held). IsRead k commits (current H0)) (sym e) read in

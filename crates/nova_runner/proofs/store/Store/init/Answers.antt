@@ -8,14 +8,14 @@ use Rattle.nova_runner.proofs.store.Store.init.Goals as goal
 pub invariant_of-result : goal.invariant_of-result
 invariant_of-result g c =
     let blank = c.in_ok-flow.ensures in
-    kept_first c.args.text.now c.in_ok-flow.field-0.flow blank.flow (record { journal = c.in-Ok.journal; flow = c.in_ok-flow.field-0.flow; catalog = c.in_ok-flow.field-0.catalog }) refl blank.catalog
+    kept_first c.args.text.now c.in_ok-flow.field-0.flow blank.flow (record { journal = c.in-Ok.journal; flow = c.in_ok-flow.field-0.flow; catalog = c.in_ok-flow.field-0.catalog; flight = c.in_ok-flow.field-0.flight }) refl blank.catalog blank.flight
 
 pub returns-in-Ok-clause-made : goal.returns-in-Ok-clause-made
 returns-in-Ok-clause-made g c honest =
     let blank = c.in_ok-flow.ensures in
     let framed = c.deref.ensures.value ∙ blank.framed in
-    made_by c.args.text.now c.in_ok-flow.field-0.flow blank.flow (record { journal = c.in-Ok.journal; flow = c.in_ok-flow.field-0.flow; catalog = c.in_ok-flow.field-0.catalog })
-    (g.H.Host.history c.args.host.now) (g.H.Host.history c.make.new.host) c.in-Ok.ensures.generation refl blank.catalog (c.in-Ok.ensures.made honest (commit_bytes (commit.Flow c.args.text.now)) framed) (c.in-Ok.ensures.only honest)
+    made_by c.args.text.now c.in_ok-flow.field-0.flow blank.flow (record { journal = c.in-Ok.journal; flow = c.in_ok-flow.field-0.flow; catalog = c.in_ok-flow.field-0.catalog; flight = c.in_ok-flow.field-0.flight })
+    (g.H.Host.history c.args.host.now) (g.H.Host.history c.make.new.host) c.in-Ok.ensures.generation refl blank.catalog blank.flight (c.in-Ok.ensures.made honest (commit_bytes (commit.Flow c.args.text.now)) framed) (c.in-Ok.ensures.only honest)
 
 pub returns-in-Err-clause-made : goal.returns-in-Err-clause-made
 returns-in-Err-clause-made g c honest =

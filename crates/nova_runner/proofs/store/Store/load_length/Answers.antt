@@ -7,7 +7,7 @@ use Rattle.nova_runner.proofs.Readables.{in_range}
 use Rattle.nova_runner.proofs.store.Store.load_length.Goals as goal
 
 pub version-requires : goal.version-requires
-version-requires c = in_range (record { journal = c.self.inside.journal; flow = c.self.inside.flow; catalog = c.self.inside.catalog }) c.args.channel c.self.invariant (subst (λ (k : Held). c.args.channel < length k.flow.channels) (sym c.self.view_is) c.requires.channel)
+version-requires c = in_range (record { journal = c.self.inside.journal; flow = c.self.inside.flow; catalog = c.self.inside.catalog; flight = c.self.inside.flight }) c.args.channel c.self.invariant (subst (λ (k : Held). c.args.channel < length k.flow.channels) (sym c.self.view_is) c.requires.channel)
 
 pub returns : goal.returns
 returns c =

@@ -10,7 +10,7 @@ use Rattle.nova_runner.proofs.Shows.{current_replied, shown_done, shown_in_part,
 use Rattle.nova_runner.proofs.store.Store.show.Goals as goal
 
 pub version-version-requires : goal.version-version-requires
-version-version-requires g c = in_range (record { journal = c.self.inside.journal; flow = c.self.inside.flow; catalog = c.self.inside.catalog }) c.args.channel c.self.invariant (subst (λ (k : Held). c.args.channel < length k.flow.channels) (sym c.self.view_is) c.requires.channel)
+version-version-requires g c = in_range (record { journal = c.self.inside.journal; flow = c.self.inside.flow; catalog = c.self.inside.catalog; flight = c.self.inside.flight }) c.args.channel c.self.invariant (subst (λ (k : Held). c.args.channel < length k.flow.channels) (sym c.self.view_is) c.requires.channel)
 
 pub returns-in-Ok-reply_table-clause-step : goal.returns-in-Ok-reply_table-clause-step
 returns-in-Ok-reply_table-clause-step g c honest commits s x stands asks =

@@ -19,8 +19,8 @@ returns-in-Ok-clause-step g c honest commits s x stands asks =
     let m = c.args.moment in
     let H0 = g.H.Host.history c.args.host.now in
     let H2 = g.H.Host.history c.append.new.host in
-    let old : Held = record { journal = c.self.inside.journal; flow = c.self.inside.flow; catalog = c.self.inside.catalog } in
-    let new : Held = record { journal = c.in-Ok.journal; flow = c.self.inside.flow; catalog = c.tick.new.self } in
+    let old : Held = record { journal = c.self.inside.journal; flow = c.self.inside.flow; catalog = c.self.inside.catalog; flight = c.self.inside.flight } in
+    let new : Held = record { journal = c.in-Ok.journal; flow = c.self.inside.flow; catalog = c.tick.new.self; flight = c.self.inside.flight } in
     let stands_now = subst (λ (k : Held). StoreStands k commits H0 s) (sym e) stands in
     let later = subst (λ (k : Held). k.catalog.moment ≤ m) (sym e) c.requires.later in
     let lead = leads old m commits s x H0 asks stands_now c.ranges.moment.fits (tick_allowed old.catalog m c.self.invariant.begun later) in
@@ -28,7 +28,7 @@ returns-in-Ok-clause-step g c honest commits s x stands asks =
     let framed = c.as_slice.ensures.value ∙ c.frame_tick-framed.ensures ∙ tick_is_framed m in
     let holds = c.in-Ok.ensures.added honest (map commit_bytes commits) (commit_bytes (commit.Tick m)) (still_holds old commits (commit.Tick m) [] s (after s (Tick m)) H0 H0 stands_now lead spare (all_left H0)) framed in
     let add = added old commits (commit.Tick m) [] s (after s (Tick m)) H0 H0 stands_now lead spare (all_left H0) H2 (c.in-Ok.ensures.others honest) new (c.in-Ok.ensures.crash_others honest) (none_put H0)
-    refl c.tick.ensures c.in-Ok.ensures.length.1 holds (c.in-Ok.ensures.settled honest) in
+    refl refl c.tick.ensures c.in-Ok.ensures.length.1 holds (c.in-Ok.ensures.settled honest) in
     let touch = touched old (commit.Tick m) [] spare H0 H0 H2 (all_left H0) refl (c.append.ensures.others honest) (c.append.ensures.replies honest) in
     let room = subst (λ (bs : List ℕ). old.journal.length + length bs ≤ 2 ^ 62) framed (within _ _ (λ past. not_err c.append.result c.in-Ok.journal c.in-Ok.is (c.append.ensures.full past).0)) in
     subst (λ (k : Held). Done k new commits s x [] H0 H2) e (done old m commits s x H0 asks new H2 add c.in-Ok.ensures.length.1 touch (short_log old m commits s x H0 asks stands_now room))
@@ -39,7 +39,7 @@ returns-in-Err-clause-step g c honest commits s x stands asks =
     let m = c.args.moment in
     let H0 = g.H.Host.history c.args.host.now in
     let H2 = g.H.Host.history c.append.new.host in
-    let old : Held = record { journal = c.self.inside.journal; flow = c.self.inside.flow; catalog = c.self.inside.catalog } in
+    let old : Held = record { journal = c.self.inside.journal; flow = c.self.inside.flow; catalog = c.self.inside.catalog; flight = c.self.inside.flight } in
     let stands_now = subst (λ (k : Held). StoreStands k commits H0 s) (sym e) stands in
     let later = subst (λ (k : Held). k.catalog.moment ≤ m) (sym e) c.requires.later in
     let lead = leads old m commits s x H0 asks stands_now c.ranges.moment.fits (tick_allowed old.catalog m c.self.invariant.begun later) in
@@ -61,8 +61,8 @@ returns-in-Ok-clause-read g c honest commits read =
     let m = c.args.moment in
     let H0 = g.H.Host.history c.args.host.now in
     let H2 = g.H.Host.history c.append.new.host in
-    let old : Held = record { journal = c.self.inside.journal; flow = c.self.inside.flow; catalog = c.self.inside.catalog } in
-    let new : Held = record { journal = c.in-Ok.journal; flow = c.self.inside.flow; catalog = c.tick.new.self } in
+    let old : Held = record { journal = c.self.inside.journal; flow = c.self.inside.flow; catalog = c.self.inside.catalog; flight = c.self.inside.flight } in
+    let new : Held = record { journal = c.in-Ok.journal; flow = c.self.inside.flow; catalog = c.tick.new.self; flight = c.self.inside.flight } in
     let read_now = subst (λ (k : Held). IsRead k commits (current H0)) (sym e) read in
     let later = subst (λ (k : Held). k.catalog.moment ≤ m) (sym e) c.requires.later in
     let framed = c.as_slice.ensures.value ∙ c.frame_tick-framed.ensures ∙ tick_is_framed m in
@@ -74,7 +74,7 @@ returns-in-Ok-clause-touched g c honest =
     let m = c.args.moment in
     let H0 = g.H.Host.history c.args.host.now in
     let H2 = g.H.Host.history c.append.new.host in
-    let old : Held = record { journal = c.self.inside.journal; flow = c.self.inside.flow; catalog = c.self.inside.catalog } in
+    let old : Held = record { journal = c.self.inside.journal; flow = c.self.inside.flow; catalog = c.self.inside.catalog; flight = c.self.inside.flight } in
     subst (λ (k : Held). Touched k (commit.Tick m) H0 H2) c.self.view_is
     (touched old (commit.Tick m) [] (none_spare old.catalog m) H0 H0 H2 (all_left H0) refl (c.append.ensures.others honest) (c.append.ensures.replies honest))
 
@@ -83,7 +83,7 @@ returns-in-Err-clause-touched g c honest =
     let m = c.args.moment in
     let H0 = g.H.Host.history c.args.host.now in
     let H2 = g.H.Host.history c.append.new.host in
-    let old : Held = record { journal = c.self.inside.journal; flow = c.self.inside.flow; catalog = c.self.inside.catalog } in
+    let old : Held = record { journal = c.self.inside.journal; flow = c.self.inside.flow; catalog = c.self.inside.catalog; flight = c.self.inside.flight } in
     subst (λ (k : Held). Touched k (commit.Tick m) H0 H2) c.self.view_is
     (touched old (commit.Tick m) [] (none_spare old.catalog m) H0 H0 H2 (all_left H0) refl (c.append.ensures.others honest) (c.append.ensures.replies honest))
 
@@ -97,7 +97,7 @@ returns-in-Ok-clause-in_host g c honest =
 pub returns-in-Err-clause-full : goal.returns-in-Err-clause-full
 returns-in-Err-clause-full g c stop =
     let m = c.args.moment in
-    let old : Held = record { journal = c.self.inside.journal; flow = c.self.inside.flow; catalog = c.self.inside.catalog } in
+    let old : Held = record { journal = c.self.inside.journal; flow = c.self.inside.flow; catalog = c.self.inside.catalog; flight = c.self.inside.flight } in
     let framed = c.as_slice.ensures.value ∙ c.frame_tick-framed.ensures ∙ tick_is_framed m in
     subst (λ (k : Held). IsFull k.journal.length k.catalog (commit.Tick m)) c.self.view_is
     (stop_full (IsFull old.journal.length old.catalog (commit.Tick m)) _ _ _ _ (λ past. inl (subst (λ (bs : List ℕ). 2 ^ 62 < old.journal.length + length bs) framed past)) c.in-Err.fault c.in-Err.ensures.cause
@@ -106,7 +106,7 @@ returns-in-Err-clause-full g c stop =
 pub returns-in-Err-clause-room : goal.returns-in-Err-clause-room
 returns-in-Err-clause-room g c full =
     let m = c.args.moment in
-    let old : Held = record { journal = c.self.inside.journal; flow = c.self.inside.flow; catalog = c.self.inside.catalog } in
+    let old : Held = record { journal = c.self.inside.journal; flow = c.self.inside.flow; catalog = c.self.inside.catalog; flight = c.self.inside.flight } in
     let framed = c.as_slice.ensures.value ∙ c.frame_tick-framed.ensures ∙ tick_is_framed m in
     let here = subst (λ (k : Held). IsFull k.journal.length k.catalog (commit.Tick m)) (sym c.self.view_is) full in
     let past = subst (λ (bs : List ℕ). 2 ^ 62 < old.journal.length + length bs) (sym framed) (only_journal old.journal.length old.catalog m c.requires.low here) in
@@ -115,7 +115,7 @@ returns-in-Err-clause-room g c full =
 pub returns-in-Ok-clause-room : goal.returns-in-Ok-clause-room
 returns-in-Ok-clause-room g c full =
     let m = c.args.moment in
-    let old : Held = record { journal = c.self.inside.journal; flow = c.self.inside.flow; catalog = c.self.inside.catalog } in
+    let old : Held = record { journal = c.self.inside.journal; flow = c.self.inside.flow; catalog = c.self.inside.catalog; flight = c.self.inside.flight } in
     let framed = c.as_slice.ensures.value ∙ c.frame_tick-framed.ensures ∙ tick_is_framed m in
     let here = subst (λ (k : Held). IsFull k.journal.length k.catalog (commit.Tick m)) (sym c.self.view_is) full in
     let past = subst (λ (bs : List ℕ). 2 ^ 62 < old.journal.length + length bs) (sym framed) (only_journal old.journal.length old.catalog m c.requires.low here) in
@@ -123,5 +123,5 @@ returns-in-Ok-clause-room g c full =
 
 pub invariant_of-result : goal.invariant_of-result
 invariant_of-result g c =
-    let old : Held = record { journal = c.self.inside.journal; flow = c.self.inside.flow; catalog = c.self.inside.catalog } in
+    let old : Held = record { journal = c.self.inside.journal; flow = c.self.inside.flow; catalog = c.self.inside.catalog; flight = c.self.inside.flight } in
     tick_kept old c.args.moment c.in-Ok.journal c.tick.new.self c.self.invariant c.tick.ensures

@@ -13,6 +13,7 @@ pub mod Leading
 pub mod Allowing
 pub mod Loads
 pub mod Readables
+pub mod Beginning
 pub mod Commits
 pub mod Marks
 pub mod Damage

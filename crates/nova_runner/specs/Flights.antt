@@ -1,5 +1,5 @@
 -- Executions in flight.
-use Rattle.std.specs.Prelude.{◌≡◌, List, ℕ, Option, None, length, map, option_map, replicate}
+use Rattle.std.specs.Prelude.{◌≡◌, List, Option, None, length, map, option_map, replicate}
 use Rattle.nova_workflow.specs.declared.flow.Flow.{Flow}
 use Rattle.nova_meta.specs.declared.captured.Captured.{Captured}
 use Rattle.nova_machine.specs.Workflow.{Workflow}

@@ -8,6 +8,7 @@ pub mod Readable
 pub mod Stands
 pub mod Acts
 pub mod Steps
+pub mod Beginning
 pub mod Committing
 pub mod Opening
 pub mod Making

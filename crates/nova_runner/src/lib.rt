@@ -1,12 +1,13 @@
 //! The store: what files and memory stand for, and each command's step.
 //!
-//! `Store::init` makes a store and `Store::reopen` opens one; `load`, `tick` and `show` are the
-//! machine's steps of their names. A command more is a line in each table of `specs/Acts.antt`, a lemma that its
+//! `Store::init` makes a store and `Store::reopen` opens one; `load`, `tick`, `begin`,
+//! `drop_run` and `show` are the machine's steps of their names. A command more is a line in each table of `specs/Acts.antt`, a lemma that its
 //! commit leads to the state behind it, and a body: files are the business of `Store::commit` alone.
 #![tactic(auto)]
 
 mod commit;
 mod context;
+mod executions;
 mod laws;
 mod load;
 mod making;

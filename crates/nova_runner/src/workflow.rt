@@ -7,6 +7,7 @@ ghost use Rattle.nova_pig_algebra.specs.Plan.{IsPlan};
 ghost use Rattle.nova_admit.specs.Flows.{HavePatterns};
 ghost use Rattle.nova_admit.specs.TaskPlans.{plan_of};
 ghost use Rattle.nova_machine.specs.Workflow.{channel_in, schema_in};
+ghost use Rattle.nova_runner.specs.Flights.{flow_of};
 ghost use Rattle.nova_runner.specs.Texts.{Admits, ArePlans, HasFlow, Says, workflow_of};
 ghost use Rattle.nova_runner.specs.Workflow.{FlowsAreAdmitted};
 
@@ -14,7 +15,7 @@ use crate::text::TextFault;
 use nova_admit::{AdmitFault, Admitted, Pattern, admit};
 use nova_flow::FlowFault;
 use nova_value::{Name, Schema};
-use nova_workflow::{Channel, Task};
+use nova_workflow::{Channel, Flow, Task};
 use sqlite_items::Items;
 use std::alloc::{AllocError, Global};
 use std::marker::Model;
@@ -154,6 +155,13 @@ impl Workflow {
         ensures { result.now ≡ self.now.text }
     {
         self.text.as_slice()
+    }
+
+    /// Its channels and its tasks, as triggers see them.
+    pub(crate) fn flow(&self) -> &Flow
+        ensures { result.now ≡ flow_of self.now }
+    {
+        self.admitted.flow()
     }
 
     /// How many channels it has.

@@ -13,3 +13,4 @@ pub mod Standing
 pub mod WorkDone
 pub mod Admitted
 pub mod Taken
+mod Examples

@@ -1,3 +1,4 @@
 pub mod Planned
 pub mod Made
 pub mod Statements
+pub mod Worked

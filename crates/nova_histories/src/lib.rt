@@ -4,11 +4,13 @@
 
 ghost use Rattle.nova_machine.specs.Wanted.{WorkLeavesNothingDue};
 ghost use Rattle.nova_histories.specs.Planned.{AdmittedArePlanned};
+ghost use Rattle.nova_histories.specs.Worked.{WorkedIsPlanned};
 ghost use Rattle.nova_histories.specs.Statements.{BlocksAreDeltas, BlocksLead, CapturesRise, ChannelsKeep, GroupRunsWriteTheirDelta, GroupsAreKept, OutputsAreResults, PlannedReadsAreBlocks, PlannedRunsKeep, RowRunsTakeTables, RowRunsWriteTheirDelta, RunsFollow, VersionsAreTables, WrittenKeysFit};
 
 /// What admission answers gives all that the laws below ask of a workflow.
 pub fn admitted_are_planned()
-    ensures { AdmittedArePlanned }
+    ensures admitted { AdmittedArePlanned }
+    ensures worked { WorkedIsPlanned }
 {}
 
 /// Each version of a channel is a table of the channel's schema, the keys that it wrote fit, and

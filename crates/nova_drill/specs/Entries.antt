@@ -39,7 +39,7 @@ page_entry page = Put (Text (url page) ∷ Text (tag page) ∷ [])
 abbrev pub raw_row : ℕ → List Value
 raw_row x = Long (pos (x % 101)) ∷ Text (url (x / 101 % 4)) ∷ Long (pos (x / 404 % 160)) ∷ []
 
--- the entry behind a number: a removal at each eighth
+-- the entry behind a number: a removal where it is a multiple of eight
 abbrev pub raw_entry : ℕ → Entry
 raw_entry x = if x % 8 == 0 then Removal (Long (pos (x % 101)) ∷ []) else Put (raw_row x)
 

@@ -121,7 +121,7 @@ GroupRunsWriteTheirDelta = (s : State) → IsPlannedFlow s.flow → IsReachable 
 
 -- ---- what keeps
 
--- runs of a planned workflow keep what they don't write
+-- runs of a planned workflow that write deltas keep what they don't write
 abbrev pub PlannedRunsKeep : Type 0
 PlannedRunsKeep = (w : Workflow) → IsPlannedFlow w → IsWired w × RunsKeep w
 
@@ -154,7 +154,7 @@ BlocksLead = (s : State) → IsPlannedFlow s.flow → IsReachable s → (t : ℕ
     let c = main_channel s t in
     merge_of (table_at s c (cursor s t k)) (block_at s c (cursor s t k) (seen_at run k)) ≡ table_at s c (seen_at run k)
 
--- a grouping task keeps the state of the table at its cursor; what its block makes of that is the state of the table that was captured
+-- a grouping task's plan is one, each table of its input is such as the rule takes, and its output is what the plan stores of the table at its cursor
 pub record KeepsGroups (s : State) (t : ℕ) : Type 0 where
   pub plan : IsGroupPlan (plan_in s.flow t).plan
   pub inputs : (n : ℕ) → IsInputTable (plan_in s.flow t).plan (table_at s (main_channel s t) n)

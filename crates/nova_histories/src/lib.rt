@@ -39,8 +39,8 @@ pub fn runs_write_their_delta()
     ensures groups { GroupRunsWriteTheirDelta }
 {}
 
-/// Runs keep what they don't write, whatever their pattern, so the blocks of each channel that
-/// isn't written anew compose in each state.
+/// Runs that write deltas keep what they don't write, whatever their pattern, so the blocks of each
+/// channel that isn't written anew compose in each state.
 pub fn runs_keep()
     ensures runs { PlannedRunsKeep }
     ensures channels { ChannelsKeep }

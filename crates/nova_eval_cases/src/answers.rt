@@ -4,6 +4,7 @@ ghost use Rattle.nova_admit.specs.TaskPlans as spec;
 ghost use Rattle.nova_pig_pattern.specs.OutputKey.{HasOutputKey};
 
 use crate::channels::{NAMES, channels, input};
+use crate::compared::{has_all, same_rows};
 use crate::flows::letter;
 use crate::tables::{add_row, table};
 use crate::words::{Words, number_of, read_words};
@@ -109,22 +110,38 @@ fn listed(alloc: Global, rows: &[Row]) -> Result<Vec<u8>, AllocError> {
     Ok(out)
 }
 
+/// The rows of the stored node by plain loops over whole tables.
+fn slow_rows(alloc: Global, plan: &Plan, tables: &[Table]) -> Result<Vec<Row>, AllocError> {
+    nova_pig_slow::rows_of_nodes(alloc, &copied(alloc, tables)?, plan.nodes(), plan.stored())
+}
+
 /// The rows of the stored node, in their order; plain loops over all rows have to find the same.
 fn rows(alloc: Global, plan: &Plan, tables: &[Table]) -> Result<Vec<u8>, AllocError> {
     let lent = lent(alloc, tables)?;
     let found = rows_of_nodes(alloc, &lent, plan.nodes(), plan.stored())?;
-    let found = listed(alloc, &found.into_rows(alloc)?)?;
-    let slow = nova_pig_slow::rows_of_nodes(
-        alloc,
-        &copied(alloc, tables)?,
-        plan.nodes(),
-        plan.stored(),
-    )?;
-    if listed(alloc, &slow)?.as_slice() == found.as_slice() {
-        Ok(found)
-    } else {
-        b"other rows by plain loops\n".to_vec(alloc)
+    let found = found.into_rows(alloc)?;
+    if !same_rows(&slow_rows(alloc, plan, tables)?, &found) {
+        return b"other rows by plain loops\n".to_vec(alloc);
     }
+    listed(alloc, &found)
+}
+
+/// The rows of a table that is stored, in the order of their keys; plain loops over all rows have to
+/// find these and no others.
+fn table_rows(
+    alloc: Global,
+    plan: &Plan,
+    tables: &[Table],
+    table: &Table,
+) -> Result<Vec<u8>, AllocError> {
+    if !has_all(table, &slow_rows(alloc, plan, tables)?) {
+        return b"other rows by plain loops\n".to_vec(alloc);
+    }
+    let mut out = Vec::new(alloc);
+    for row in table.rows() {
+        add_row(alloc, &mut out, row)?;
+    }
+    Ok(out)
 }
 
 /// What the stored node gives of each row of the first table, `-` where it gives none.
@@ -194,11 +211,7 @@ fn of_pattern(
     if verb == "count" {
         return count(alloc, table.len());
     }
-    let mut out = Vec::new(alloc);
-    for row in table.rows() {
-        add_row(alloc, &mut out, row)?;
-    }
-    Ok(out)
+    table_rows(alloc, plan, &tables, &table)
 }
 
 /// What a step answers of a task with this plan.

@@ -4,6 +4,7 @@
 
 mod answers;
 mod channels;
+mod compared;
 mod flows;
 mod tables;
 mod words;

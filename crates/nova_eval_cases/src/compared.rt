@@ -22,9 +22,9 @@ pub fn same_rows(a: &[Row], b: &[Row]) -> bool {
     a.len() == b.len()
 }
 
-/// Whether a row is in a table.
-fn has(table: &Table, row: &Row) -> bool {
-    for other in table.rows() {
+/// Whether a row is one of these.
+fn is_among(rows: &[Row], row: &Row) -> bool {
+    for other in rows {
         if same(other.values(), row.values()) {
             return true;
         }
@@ -32,10 +32,10 @@ fn has(table: &Table, row: &Row) -> bool {
     false
 }
 
-/// Whether a table has these rows and no others, in whatever order they come.
+/// Whether a table has these rows and no others, each once, in whatever order they come.
 pub fn has_all(table: &Table, rows: &[Row]) -> bool {
-    for row in rows {
-        if !has(table, row) {
+    for row in table.rows() {
+        if !is_among(rows, row) {
             return false;
         }
     }

@@ -6,8 +6,8 @@ use Rattle.std.proofs.lemmas.Option.{slice_get_read}
 use Rattle.std.specs.List.{AllByRecursion}
 use Rattle.nova_pig_algebra.specs.Plan.{Plan}
 use Rattle.nova_pig_pattern.specs.OutputKey.{HasOutputKey}
-use Rattle.nova_pig_script.specs.declared.script.ScriptFault.{ScriptFault}
-use Rattle.nova_pig_script.specs.Text.{GivesPlan}
+use Rattle.nova_admit.specs.declared.script.ScriptFault.{ScriptFault}
+use Rattle.nova_admit.specs.Texts.{GivesPlan}
 use Rattle.nova_workflow.specs.declared.flow.Input.{Input}
 use Rattle.nova_workflow.specs.declared.flow.Task.{Task}
 use Rattle.nova_workflow.specs.declared.flow.Flow.{Flow}

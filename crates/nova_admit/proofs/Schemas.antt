@@ -7,7 +7,7 @@ use Rattle.nova_pig_plan.specs.declared.scope.Channels.{Channels}
 use Rattle.nova_pig_plan.specs.declared.scope.Graph.{Graph}
 use Rattle.nova_pig_plan.specs.Plans.{graph_of}
 use Rattle.nova_pig_plan.specs.Resolve.{Place, schemas, plan, with_channels}
-use Rattle.nova_pig_script.specs.Text.{GivesPlan}
+use Rattle.nova_admit.specs.Texts.{GivesPlan}
 use Rattle.nova_workflow.specs.declared.flow.Input.{Input}
 use Rattle.nova_workflow.specs.declared.flow.Task.{Task}
 use Rattle.nova_workflow.specs.declared.flow.Flow.{Flow}

@@ -12,9 +12,9 @@ use Rattle.nova_pig_plan.specs.declared.fault.PlanFault.{PlanFault}
 use Rattle.nova_pig_plan.specs.declared.fault.PlanFault.TheVariants as plan
 use Rattle.nova_pig_plan.specs.declared.scope.Channels.{Channels}
 use Rattle.nova_pig_plan.specs.Resolve.{Place, plan_of as resolved, said, IsFirst}
-use Rattle.nova_pig_script.specs.declared.script.ScriptFault.{ScriptFault}
-use Rattle.nova_pig_script.specs.declared.script.ScriptFault.TheVariants as script
-use Rattle.nova_pig_script.specs.Text.{GivesPlan}
+use Rattle.nova_admit.specs.declared.script.ScriptFault.{ScriptFault}
+use Rattle.nova_admit.specs.declared.script.ScriptFault.TheVariants as script
+use Rattle.nova_admit.specs.Texts.{GivesPlan}
 use Rattle.nova_pig_pattern.specs.declared.task.PatternKind.{PatternKind}
 use Rattle.nova_pig_pattern.specs.declared.task.PatternKind.TheVariants.{NonIncremental, Stateless, Lookup, Stateful}
 use Rattle.nova_pig_pattern.specs.declared.task.TaskFault.{TaskFault}

@@ -12,9 +12,9 @@ use Rattle.nova_pig_pattern.specs.OutputKey.{HasOutputKey}
 use Rattle.nova_pig_parse.specs.declared.text.ParseFault.TheVariants as parse
 use Rattle.nova_pig_plan.specs.declared.scope.Channels.{Channels}
 use Rattle.nova_pig_plan.specs.declared.fault.PlanFault.TheVariants as plan
-use Rattle.nova_pig_script.specs.declared.script.ScriptFault.{ScriptFault}
-use Rattle.nova_pig_script.specs.declared.script.ScriptFault.TheVariants as script
-use Rattle.nova_pig_script.specs.Text.{GivesPlan}
+use Rattle.nova_admit.specs.declared.script.ScriptFault.{ScriptFault}
+use Rattle.nova_admit.specs.declared.script.ScriptFault.TheVariants as script
+use Rattle.nova_admit.specs.Texts.{GivesPlan}
 use Rattle.nova_workflow.specs.declared.flow.Channel.{Channel}
 use Rattle.nova_workflow.specs.declared.flow.Input.{Input}
 use Rattle.nova_workflow.specs.declared.flow.Mode.{Mode}

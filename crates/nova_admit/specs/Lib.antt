@@ -1,3 +1,4 @@
+pub mod Texts
 pub mod NodeShapes
 pub mod NodeReaches
 pub mod Shaped

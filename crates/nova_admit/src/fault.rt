@@ -1,7 +1,7 @@
 //! Why a workflow isn't admitted.
 ghost use Rattle.std.specs.Prelude.{◌≡◌};
 
-use nova_pig_script::ScriptFault;
+use crate::script::ScriptFault;
 use nova_value::Name;
 use std::alloc::AllocError;
 

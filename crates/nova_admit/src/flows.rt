@@ -6,11 +6,11 @@ ghost use Rattle.nova_admit.specs.Flows as spec;
 
 use crate::fault::AdmitFault;
 use crate::plans::{Pattern, admit_task};
+use crate::script::{ScriptFault, plan_of_text};
 use nova_pig_algebra::Plan;
 use nova_pig_parse::ParseFault;
 use nova_pig_pattern::{Input, TaskFault};
 use nova_pig_plan::{Channels, PlanFault};
-use nova_pig_script::{ScriptFault, plan_of_text};
 use nova_value::{Name, Schema};
 use nova_workflow::{Channel, Flow, Input as Edge, Mode, Task};
 use sqlite_items::Items;

@@ -1,5 +1,5 @@
-//! Whether a workflow is admitted: the pattern of each task, from the nodes of its plan, or the
-//! fault of the first task that isn't admitted.
+//! The plan of a script's text, and whether a workflow is admitted: the pattern of each task, from
+//! the nodes of its plan, or the fault of the first task that isn't admitted.
 #![tactic(auto)]
 
 mod admitted;
@@ -9,6 +9,7 @@ mod laws;
 mod pattern;
 mod plans;
 mod reach;
+mod script;
 mod shape;
 mod task;
 
@@ -16,4 +17,5 @@ pub use admitted::{Admitted, admit};
 pub use fault::AdmitFault;
 pub use laws::tasks_are_settled;
 pub use plans::{GroupPlan, Pattern, RowPlan, admit_task};
+pub use script::{ScriptFault, plan_of_text};
 pub use task::admission;

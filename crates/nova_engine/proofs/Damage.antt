@@ -2,6 +2,7 @@
 use Rattle.std.proofs.Common.{◌≡◌, ◌⊎◌, inl, inr, ℕ, ◌<◌, Bool, List, [], ◌∷◌, ◌++◌, length, map, Result, Err, refl, sym, ap, ◌∙◌, append_assoc, subst}
 use Rattle.std.proofs.lemmas.List.{append-nil}
 use Rattle.std.specs.Bool.{IsTrue}
+use Rattle.std.specs.List.{AllByRecursion}
 use Rattle.std.specs.Prelude.{IsErrOf}
 use Rattle.nova_outside.specs.Causes.{Rose}
 use Rattle.nova_outside.specs.Disk.{Files}
@@ -10,11 +11,17 @@ use Rattle.nova_outside.specs.Replies.{Gives, HasReplied}
 use Rattle.nova_outside.proofs.ReplyLemmas.{replies_grow}
 use Rattle.nova_commit.specs.Commits.{commit_bytes}
 use Rattle.nova_commit.specs.declared.commit.Commit.{Commit}
+use Rattle.nova_commit.specs.declared.commit.Commit.TheVariants as commit
+use Rattle.nova_meta.specs.Catalog.{Entered, shelf_at}
+use Rattle.nova_machine.specs.Workflow.{Workflow}
+use Rattle.nova_execution.specs.Reads.{IsReadDamage, Read}
 use Rattle.nova_script.specs.Replies as line
+use Rattle.nova_runner.specs.Acts.{newest_reads}
 use Rattle.nova_runner.specs.Held.{Held}
-use Rattle.nova_runner.specs.Opening.{IsBadStore, IsRead, UnopenedTold}
+use Rattle.nova_runner.specs.Opening.{AreInOrder, IsBadStore, IsRead, UnopenedTold}
 use Rattle.nova_runner.specs.Reading.{ShowCause, ShownTold, UnshownGave, why_unshown}
-use Rattle.nova_runner.specs.Steps.{InHost, IsStopDamage, Why, why_of}
+use Rattle.nova_runner.specs.Runs.{StopDamage}
+use Rattle.nova_runner.specs.Steps.{InHost, IsNoFailedCall, IsStopDamage, StopCause, Why, why_of}
 use Rattle.nova_runner.specs.Steps as step
 use Rattle.nova_runner.specs.declared.opening.OpenFault.{OpenFault}
 use Rattle.nova_runner.specs.declared.opening.OpenFault.TheVariants as fault
@@ -22,12 +29,17 @@ use Rattle.nova_runner.specs.declared.show.Unshown.{Unshown}
 use Rattle.nova_runner.specs.declared.show.Unshown.TheVariants as unshown
 use Rattle.nova_runner.specs.declared.stop.Stopped.{Stopped}
 use Rattle.nova_runner.specs.declared.stop.Stopped.TheVariants as stopped
+use Rattle.nova_runner.specs.Texts.{HasFlow}
+use Rattle.nova_runner.specs.Workflow.{wiring_of}
+use Rattle.nova_runner.proofs.Flows.{well_wired}
+use Rattle.nova_runner.proofs.Readables.{wired}
 use Rattle.nova_runner.proofs.Shows.{current_replied}
+use Rattle.nova_runner.proofs.Tasks.{reads_there}
 use Rattle.nova_engine.specs.declared.status.Status.{Status}
 use Rattle.nova_engine.specs.declared.status.Status.TheVariants as exit
 use Rattle.nova_engine.specs.declared.stop.Stop.{Stop}
 use Rattle.nova_engine.specs.declared.stop.Stop.TheVariants as stop
-use Rattle.nova_engine.specs.Damage.{IsBadBlock, IsReadIn, TellsDamage}
+use Rattle.nova_engine.specs.Damage.{IsBadBlock, IsJournalOf, IsReadIn, TellsDamage}
 use Rattle.nova_engine.specs.Ending.{DamageTold, EndsStopped, EndsUnopened}
 use Rattle.nova_engine.specs.Seen.{Seen}
 use Rattle.nova_engine.specs.Stopping.{why}
@@ -71,7 +83,7 @@ shown_disk disk now reply later s unshown.Reply is cause e = absurd (no_reply (s
     no_reply e = cc
 shown_disk disk now reply later s unshown.NoMemory is cause e = absurd (no_memory (sym (ap why e) ∙ is))
   where
-    no_memory : step.Disk ≡ step.Memory → ⊥
+    no_memory : step.Disk ≡ step.NoMemory → ⊥
     no_memory e = cc
 
 pub shown_reply : (disk now reply later : ℕ) (s : Stop) (by : Unshown) → why s ≡ why_unshown by → ShowCause disk now reply later by → s ≡ stop.Reply → Rose reply later
@@ -86,23 +98,23 @@ shown_reply disk now reply later s unshown.Disk is cause e = absurd (no_disk (sy
     no_disk e = cc
 shown_reply disk now reply later s unshown.NoMemory is cause e = absurd (no_memory (sym (ap why e) ∙ is))
   where
-    no_memory : step.Reply ≡ step.Memory → ⊥
+    no_memory : step.Reply ≡ step.NoMemory → ⊥
     no_memory e = cc
 
--- a load tells no damage
-pub no_load_damage : (s : Stop) (by : Stopped) (file at : ℕ) → why s ≡ why_of by → (IsStopDamage by → ⊥) → s ≡ stop.Damaged file at → ⊥
-no_load_damage s stopped.Disk file at is none e = no_disk (sym is ∙ ap why e)
+-- a call that stopped, and told no damage
+pub none_told : (s : Stop) (by : Stopped) (file at : ℕ) → why s ≡ why_of by → (IsStopDamage by → ⊥) → s ≡ stop.Damaged file at → ⊥
+none_told s stopped.Disk file at is none e = no_disk (sym is ∙ ap why e)
   where
     no_disk : step.Disk ≡ step.Damaged file at → ⊥
     no_disk e = cc
-no_load_damage s (stopped.Damaged other place) file at is none e = none tt
-no_load_damage s (stopped.Full end) file at is none e = no_full (sym is ∙ ap why e)
+none_told s (stopped.Damaged other place) file at is none e = none tt
+none_told s (stopped.Full end) file at is none e = no_full (sym is ∙ ap why e)
   where
     no_full : step.Full end ≡ step.Damaged file at → ⊥
     no_full e = cc
-no_load_damage s (stopped.NoMemory store) file at is none e = no_memory (sym is ∙ ap why e)
+none_told s (stopped.NoMemory store) file at is none e = no_memory (sym is ∙ ap why e)
   where
-    no_memory : step.Memory ≡ step.Damaged file at → ⊥
+    no_memory : step.NoMemory ≡ step.Damaged file at → ⊥
     no_memory e = cc
 
 -- a block that a `show` finds to be none is one of the store that its journal says
@@ -118,7 +130,7 @@ shown_damage h store c s unshown.Reply a b is read within told same file at e ho
     no_reply e = cc
 shown_damage h store c s unshown.NoMemory a b is read within told same file at e honest = absurd (no_memory (sym is ∙ ap why e))
   where
-    no_memory : step.Memory ≡ step.Damaged file at → ⊥
+    no_memory : step.NoMemory ≡ step.Damaged file at → ⊥
     no_memory e = cc
 shown_damage h store c s (unshown.Damaged other place) a b is read within told same file at e honest =
     let found : step.Damaged other place ≡ step.Damaged file at = sym is ∙ ap why e in
@@ -131,9 +143,107 @@ shown_damage h store c s (unshown.Damaged other place) a b is read within told s
       journal = record { generation = store.journal.generation; marked = own.1.marked; log = own.1.log.log; in_order = own.1.in_order };
       channel = c;
       in_range = within;
+      from = 0;
+      to = (shelf_at store.catalog c).version;
       damage = told honest;
     } in
     subst (λ (f : Files). IsBadBlock f file at) (sym files) (subst (λ n. IsBadBlock (current a) n at) (file_of found) (subst (λ n. IsBadBlock (current a) other n) (place_of found) here))
+  where
+    file_of : step.Damaged other place ≡ step.Damaged file at → other ≡ file
+    file_of e = cc
+
+    place_of : step.Damaged other place ≡ step.Damaged file at → place ≡ at
+    place_of e = cc
+
+-- ---- a run
+
+-- a failed call has its count
+pub stopped_disk : (store : Held) (before now : ℕ) (s : Stop) (by : Stopped) → why s ≡ why_of by → StopCause store before now by → s ≡ stop.Disk → Rose before now
+stopped_disk store before now s stopped.Disk is cause e = cause
+stopped_disk store before now s (stopped.Damaged file at) is cause e = absurd (no_damage (sym (ap why e) ∙ is))
+  where
+    no_damage : step.Disk ≡ step.Damaged file at → ⊥
+    no_damage e = cc
+stopped_disk store before now s (stopped.Full end) is cause e = absurd (no_full (sym (ap why e) ∙ is))
+  where
+    no_full : step.Disk ≡ step.Full end → ⊥
+    no_full e = cc
+stopped_disk store before now s (stopped.NoMemory again) is cause e = absurd (no_memory (sym (ap why e) ∙ is))
+  where
+    no_memory : step.Disk ≡ step.NoMemory → ⊥
+    no_memory e = cc
+
+-- a call of the store replies nothing
+pub stopped_reply : (s : Stop) (by : Stopped) → why s ≡ why_of by → s ≡ stop.Reply → ⊥
+stopped_reply s stopped.Disk is e = no_disk (sym (ap why e) ∙ is)
+  where
+    no_disk : step.Reply ≡ step.Disk → ⊥
+    no_disk e = cc
+stopped_reply s (stopped.Damaged file at) is e = no_damage (sym (ap why e) ∙ is)
+  where
+    no_damage : step.Reply ≡ step.Damaged file at → ⊥
+    no_damage e = cc
+stopped_reply s (stopped.Full end) is e = no_full (sym (ap why e) ∙ is)
+  where
+    no_full : step.Reply ≡ step.Full end → ⊥
+    no_full e = cc
+stopped_reply s (stopped.NoMemory store) is e = no_memory (sym (ap why e) ∙ is)
+  where
+    no_memory : step.Reply ≡ step.NoMemory → ⊥
+    no_memory e = cc
+
+-- the workflow that the first of the commits has, and its wiring
+flow_read : (commits : List Commit) (flow : Workflow) (cat : Entered) → AreInOrder commits flow cat → HasFlow flow.text flow × (cat.wiring ≡ wiring_of flow)
+flow_read [] flow cat order = absurd order
+flow_read (commit.Flow text ∷ cs) flow cat order =
+    let has : HasFlow flow.text flow = subst (λ x. HasFlow x flow) (ap (λ (w : Workflow). w.text) order.0.is) order.0 in
+    (has, wired (wiring_of flow) (commit.Flow text ∷ cs) cat (well_wired flow has) order.1.is)
+flow_read (commit.Load c block size ∷ cs) flow cat order = absurd order
+flow_read (commit.Tick moment ∷ cs) flow cat order = absurd order
+flow_read (commit.Run t versions moment seen block size parts ∷ cs) flow cat order = absurd order
+flow_read (commit.Joined c from to block size ∷ cs) flow cat order = absurd order
+flow_read (commit.Collected kept ∷ cs) flow cat order = absurd order
+
+-- a block that one of several reads finds to be none
+bad_read : (files : Files) (commits : List Commit) (flow : Workflow) (cat : Entered) → IsJournalOf files commits flow cat → (rs : List Read) → AllByRecursion (λ (r : Read). r.channel < length flow.channels) rs
+    → (file at : ℕ) → IsReadDamage flow.channels cat files rs file at → IsBadBlock files file at
+bad_read files commits flow cat journal [] within file at damage = absurd damage
+bad_read files commits flow cat journal (r ∷ rs) within file at (inl damage) = record {
+  commits = commits;
+  flow = flow;
+  catalog = cat;
+  journal = journal;
+  channel = r.channel;
+  in_range = within.0;
+  from = r.from;
+  to = r.to;
+  damage = damage;
+}
+bad_read files commits flow cat journal (r ∷ rs) within file at (inr more) = bad_read files commits flow cat journal rs within.1 file at more.1
+
+-- a block that a run finds to be none is one of the store that its journal says
+pub ran_damage : (h : Bool) (store : Held) (t : ℕ) (s : Stop) (by : Stopped) (a b : List Event) → why s ≡ why_of by → IsReadIn h store a → t < length store.flow.tasks
+    → (IsTrue h → StopDamage store t (current a) by) → (IsNoFailedCall by → IsTrue h → b ≡ a) → (file at : ℕ) → s ≡ stop.Damaged file at → IsTrue h → IsBadBlock (current b) file at
+ran_damage h store t s stopped.Disk a b is read lt told same file at e honest = absurd (no_disk (sym is ∙ ap why e))
+  where
+    no_disk : step.Disk ≡ step.Damaged file at → ⊥
+    no_disk e = cc
+ran_damage h store t s (stopped.Full end) a b is read lt told same file at e honest = absurd (no_full (sym is ∙ ap why e))
+  where
+    no_full : step.Full end ≡ step.Damaged file at → ⊥
+    no_full e = cc
+ran_damage h store t s (stopped.NoMemory again) a b is read lt told same file at e honest = absurd (no_memory (sym is ∙ ap why e))
+  where
+    no_memory : step.NoMemory ≡ step.Damaged file at → ⊥
+    no_memory e = cc
+ran_damage h store t s (stopped.Damaged other place) a b is read lt told same file at e honest =
+    let found : step.Damaged other place ≡ step.Damaged file at = sym is ∙ ap why e in
+    let own = read honest in
+    let flow = flow_read own.0 store.flow store.catalog own.1.in_order in
+    let here : IsBadBlock (current a) other place =
+    bad_read (current a) own.0 store.flow store.catalog (record { generation = store.journal.generation; marked = own.1.marked; log = own.1.log.log; in_order = own.1.in_order })
+    (newest_reads store.catalog t) (reads_there store.flow flow.0 store.catalog flow.1 t lt) other place (told honest) in
+    subst (λ (x : List Event). IsBadBlock (current x) file at) (sym (same tt honest)) (subst (λ n. IsBadBlock (current a) n at) (file_of found) (subst (λ n. IsBadBlock (current a) other n) (place_of found) here))
   where
     file_of : step.Damaged other place ≡ step.Damaged file at → other ≡ file
     file_of e = cc
@@ -165,7 +275,7 @@ module _ (h : Bool) (honest : IsTrue h) (m b : Seen) where
     where
       no_full : exit.Full ≡ exit.Damaged → ⊥
       no_full e = cc
-  stop_tells stop.Memory s ends cause e = absurd (no_memory (sym ends.0 ∙ e))
+  stop_tells stop.NoMemory s ends cause e = absurd (no_memory (sym ends.0 ∙ e))
     where
       no_memory : exit.NoMemory ≡ exit.Damaged → ⊥
       no_memory e = cc

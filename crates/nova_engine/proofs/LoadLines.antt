@@ -21,6 +21,7 @@ use Rattle.nova_script.specs.declared.context.Request.TheVariants as r
 use Rattle.nova_script.specs.declared.refusal.Refusal.{Refusal}
 use Rattle.nova_script.specs.declared.refusal.Refusal.TheVariants.{BadRow, LineTooLong}
 use Rattle.nova_workflow.specs.declared.flow.Channel.{Channel}
+use Rattle.nova_workflow.specs.declared.flow.Task.{Task}
 use Rattle.nova_machine.specs.Workflow.{Workflow, channel_in, is_input, schema_in}
 use Rattle.nova_machine.specs.State.{State}
 use Rattle.nova_machine.specs.Steps.{load_delta}
@@ -158,6 +159,9 @@ writer_none (Some t) is = absurd (cc)
 
 pub count_names : (flow : Workflow) → length (map (λ (c : Channel). c.name) flow.channels) ≡ length flow.channels
 count_names flow = length-map flow.channels (λ (c : Channel). c.name)
+
+pub count_tasks : (flow : Workflow) → length (map (λ (t : Task). t.name) flow.tasks) ≡ length flow.tasks
+count_tasks flow = length-map flow.tasks (λ (t : Task). t.name)
 
 pub begins_rows : (store : Held) (c : ℕ) (new : Pending) → IsMet (around_held store) (Ok (r.Load c)) → HasRows new c (record { schema = schema_in store.flow c; entries = fin.empty }) 0
     → BeginsLoad store (Ok (r.Load c)) new

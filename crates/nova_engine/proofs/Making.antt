@@ -166,7 +166,7 @@ module _ (text : List ℕ) (a b : Seen) (same : b ≡ a) where
     others = λ n x y. rested n;
     reads = ap (λ (s : Seen). s.read) same;
   }
-  unread_told none unread.Memory = memory_told none
+  unread_told none unread.NoMemory = memory_told none
 
   -- the marks weren't read
   pub unmarked_told : InitTold text exit.DiskFault a b
@@ -192,7 +192,7 @@ module _ (text : List ℕ) (a b : Seen) (same : b ≡ a) where
 
 unread_end_of : (why : Unread) → IsOfText (unread_end why) → ⊥
 unread_end_of unread.Source is = is
-unread_end_of unread.Memory is = is
+unread_end_of unread.NoMemory is = is
 
 module _ (left : Option (List ℕ)) (a b : Seen) where
   none_taken : (input : List ℕ) → left ≡ Some input → (taken : List ℕ) × TookText input left taken

@@ -14,7 +14,7 @@ use Rattle.nova_machine.specs.Building.{built_steps}
 use Rattle.nova_machine.proofs.Cuts.{has_newline-append}
 use Rattle.nova_machine.proofs.Turns.{after_all-append, built_steps-append}
 use Rattle.nova_runner.specs.Held.{Held}
-use Rattle.nova_runner.specs.Steps.{StoreStands, Why, Memory}
+use Rattle.nova_runner.specs.Steps.{StoreStands, Why, NoMemory}
 use Rattle.nova_engine.specs.declared.reader.LineReader.{LineReader}
 use Rattle.nova_engine.specs.declared.reader.Session.{Session}
 use Rattle.nova_engine.specs.declared.stop.Stop.{Stop}
@@ -129,7 +129,7 @@ breaks_before why h r a b xs ys one honest commits p at =
       cut = λ more. let rest = broke.cut (ys ++ more) in (rest.0, ap (items_at p) (append_assoc xs ys more) ∙ rest.1);
     }
 
-pub breaks_at_once : (h : Bool) (r : LineReader) (a : Seen) (bytes : List ℕ) → BreaksOn Memory h r a a bytes
+pub breaks_at_once : (h : Bool) (r : LineReader) (a : Seen) (bytes : List ℕ) → BreaksOn NoMemory h r a a bytes
 breaks_at_once h r a bytes honest commits p at = record {
   items = [];
   stops = stops_at_once r.session.store commits p.state [] a at.stands;
@@ -192,12 +192,12 @@ next_bytes bytes done rest line more all is =
 
 -- behind the last newline the bytes are kept, where there is memory
 pub moves_kept : (h : Bool) (r : Result LineReader Stop) (old mid : LineReader) (a b : Seen) (bytes done rest : List ℕ) → bytes ≡ done ++ rest → has_newline rest ≡ false → MovesOn h old mid a b done
-    → IfOk r (λ new. new.session ≡ mid.session) → IfOk r (λ new. new.held ≡ kept (mid.held ++ rest)) → IfErr r (λ reason. reason ≡ stop.Memory) → BytesTold h old bytes a b r
+    → IfOk r (λ new. new.session ≡ mid.session) → IfOk r (λ new. new.held ≡ kept (mid.held ++ rest)) → IfErr r (λ reason. reason ≡ stop.NoMemory) → BytesTold h old bytes a b r
 moves_kept h (Ok new) old mid a b bytes done rest all clean moves same held memory =
     subst (λ bs. MovesOn h old new a b bs) (sym all) (moves_both h old mid new a b b done rest moves (moves_carry h mid new b rest same held clean))
 moves_kept h (Err reason) old mid a b bytes done rest all clean moves same held memory =
     subst (λ bs. BreaksOn (why reason) h old a b bs) (sym all)
-    (subst (λ (w : Stop). BreaksOn (why w) h old a b (done ++ rest)) (sym memory) (breaks_behind Memory h old mid a b b done rest moves (breaks_at_once h mid b rest)))
+    (subst (λ (w : Stop). BreaksOn (why w) h old a b (done ++ rest)) (sym memory) (breaks_behind NoMemory h old mid a b b done rest moves (breaks_at_once h mid b rest)))
 
 -- ---- the end of the input
 

@@ -12,15 +12,15 @@ use Rattle.nova_channel.specs.Reading.{route_size}
 use Rattle.nova_script.specs.Refusals.{refusal_text}
 use Rattle.nova_script.specs.Replies as line
 use Rattle.nova_script.specs.declared.refusal.Refusal.{Refusal}
-use Rattle.nova_machine.specs.Workflow.{Workflow, channel_in}
+use Rattle.nova_machine.specs.Workflow.{Workflow, channel_in, output_in, task_in}
 use Rattle.nova_machine.specs.State.{State, ended, newest}
-use Rattle.nova_machine.specs.Steps.{Step, Load, Refused, Show, after}
+use Rattle.nova_machine.specs.Steps.{Step, Refused, Run, Show, after}
 use Rattle.nova_machine.specs.Replies.{reply_to}
 use Rattle.nova_machine.proofs.Turns.{flow_after}
 use Rattle.nova_runner.specs.Acts.{behind, catalog_behind, own_commit, read_size}
 use Rattle.nova_runner.specs.Held.{Held}
 use Rattle.nova_runner.specs.Stands.{Drawn, StandsBut}
-use Rattle.nova_runner.specs.Steps.{AsksLoad, AsksShow, Does, Done, HeldBack, LosesNone, Stops, StoreStands, Why, Reply, silent}
+use Rattle.nova_runner.specs.Steps.{AsksLoad, AsksRun, AsksShow, AsksTick, Does, Done, HeldBack, LosesNone, Stops, StoreStands, Why, Reply, silent}
 use Rattle.nova_runner.proofs.Loading.{drawings, drawn_at}
 use Rattle.nova_runner.proofs.Shows.{current_replied, lost_replied, settled_replied, stands_replied}
 use Rattle.nova_engine.specs.Seen.{Seen}
@@ -101,44 +101,100 @@ held_replied store new commits s x a m b stands done part =
       room = done.room;
     }
 
+-- what is asked for in these words, over a store that stands for a state, is told by this line
+abbrev IsLineOf : (State → Step → Type 0) → Held → List Event → List ℕ → Type 0
+IsLineOf asks store a given = (commits : List Commit) (s : State) (x : Step) → StoreStands store commits a s → asks s x → given ≡ reply_to s x
+
+-- and reads at most so much
+abbrev ReadsAtMost : (State → Step → Type 0) → Held → ℕ → ℕ → Type 0
+ReadsAtMost asks store before now = (s : State) (x : Step) → asks s x → now ≤ before + read_size store.catalog x
+
+module _ (h : Bool) (asks : State → Step → Type 0) (store new : Held) (given : List ℕ) (a m b : Seen) (does : Does h asks silent store new a.history m.history)
+    (is : IsLineOf asks store a.history given) (most : ReadsAtMost asks store a.read m.read) (read : b.read ≡ m.read) where
+  told_takes : Gives h m.history b.history given → TakesAsked h (AsksOne asks) store new a b
+  told_takes gives honest commits s xs stands asked =
+      let x = asked.0 in
+      let done = does honest commits s x stands asked.2 in
+      let told = done_replied store new commits s x a.history m.history b.history (reply_to s x) done (subst (HasReplied m.history b.history) (is commits s x stands asked.2) (gives honest)) in
+      let few = most s x asked.2 in
+      subst (λ ys. Takes store new commits s ys a b) (sym asked.1) (takes_one store new commits s x a b stands told (omega (arith, few, read)))
+
+  told_stops : GivesInPart h m.history b.history given → StopsAsked Reply h (AsksOne asks) store a b
+  told_stops gives honest commits s xs stands asked =
+      let x = asked.0 in
+      let done = does honest commits s x stands asked.2 in
+      let held = held_replied store new commits s x a.history m.history b.history stands done (subst (HasRepliedInPart m.history b.history) (is commits s x stands asked.2) (gives honest)) in
+      let few = most s x asked.2 in
+      subst (λ ys. StopsIn Reply store commits s ys a b) (sym asked.1) (stops_one Reply store commits s x a b stands held (omega (arith, few, read)))
+
+-- a step that stopped
+pub stopped_one : (h : Bool) (asks : State → Step → Type 0) (store : Held) (why other : Why) (a b : Seen) → other ≡ why → Stops why h asks store a.history b.history → ReadsAtMost asks store a.read b.read
+    → StopsAsked other h (AsksOne asks) store a b
+stopped_one h asks store why other a b is stops most honest commits s xs stands asked =
+    let few = most s asked.0 asked.2 in
+    subst (λ w. StopsIn w store commits s xs a b) (sym is)
+    (subst (λ ys. StopsIn why store commits s ys a b) (sym asked.1) (stops_one why store commits s asked.0 a b stands (stops honest commits s asked.0 stands asked.2) few))
+
+-- the version of a channel is the machine's
+version_is : (store : Held) (commits : List Commit) (a : List Event) (s : State) (c : ℕ) → StoreStands store commits a s → (shelf_at store.catalog c).version ≡ newest s c
+version_is store commits a s c stands = ap (λ (x : Drawn). x.version) (drawn_at store.catalog (ended s) (drawings store.catalog (ended s) stands.by.agrees.same) c)
+
+-- steps that read nothing
+pub reads_nothing : (asks : State → Step → Type 0) (store : Held) (before now : ℕ) → now ≡ before → ReadsAtMost asks store before now
+reads_nothing asks store before now same s x asked = omega (arith, same)
+
 -- ---- a load
 
 -- the line that the code makes of a load is the machine's
-loaded_line : (store new : Held) (commits : List Commit) (a : List Event) (s : State) (c version : ℕ) (entries : List Entry) (given : List ℕ) → StoreStands store commits a s → new.flow ≡ store.flow
-    → version ≡ (shelf_at store.catalog c).version + 1 → given ≡ line.loaded (channel_in new.flow c).name version → given ≡ reply_to s (Load c entries)
-loaded_line store new commits a s c version entries given stands flow number is =
-    let newest_is : (shelf_at store.catalog c).version ≡ newest s c = ap (λ (x : Drawn). x.version) (drawn_at store.catalog (ended s) (drawings store.catalog (ended s) stands.by.agrees.same) c) in
+loaded_line : (store new : Held) (a : List Event) (c version : ℕ) (d : DeltaValue) (given : List ℕ) → new.flow ≡ store.flow
+    → version ≡ (shelf_at store.catalog c).version + 1 → given ≡ line.loaded (channel_in new.flow c).name version → IsLineOf (AsksLoad c d) store a given
+loaded_line store new a c version d given flow number is commits s x stands asked =
     is ∙ ap (λ (f : Workflow). line.loaded (channel_in f c).name version) (flow ∙ stands.flow)
-    ∙ ap (λ n. line.loaded (channel_in s.flow c).name n) (number ∙ ap (λ n. n + 1) newest_is)
+    ∙ ap (λ n. line.loaded (channel_in s.flow c).name n) (number ∙ ap (λ n. n + 1) (version_is store commits a s c stands))
+    ∙ ap (λ y. reply_to s y) (sym asked.1)
 
 module _ (h : Bool) (store new : Held) (c version : ℕ) (d : DeltaValue) (given : List ℕ) (a m b : Seen)
     (does : Does h (AsksLoad c d) silent store new a.history m.history) (flow : new.flow ≡ store.flow) (number : version ≡ (shelf_at store.catalog c).version + 1)
     (is : given ≡ line.loaded (channel_in new.flow c).name version) (same : m.read ≡ a.read) (read : b.read ≡ m.read) where
   pub loaded_takes : Gives h m.history b.history given → TakesAsked h (AsksOne (AsksLoad c d)) store new a b
-  loaded_takes gives honest commits s xs stands asks =
-      let entries = asks.2.0 in
-      let here = loaded_line store new commits a.history s c version entries given stands flow number is in
-      let x = asks.0 in
-      let line_is : given ≡ reply_to s x = here ∙ ap (λ y. reply_to s y) (sym asks.2.1) in
-      let done = does honest commits s x stands asks.2 in
-      let told = done_replied store new commits s x a.history m.history b.history (reply_to s x) done (subst (HasReplied m.history b.history) line_is (gives honest)) in
-      subst (λ ys. Takes store new commits s ys a b) (sym asks.1) (takes_one store new commits s x a b stands told (omega (arith, same, read)))
+  loaded_takes = told_takes h (AsksLoad c d) store new given a m b does (loaded_line store new a.history c version d given flow number is) (reads_nothing (AsksLoad c d) store a.read m.read same) read
 
   pub loaded_stops : GivesInPart h m.history b.history given → StopsAsked Reply h (AsksOne (AsksLoad c d)) store a b
-  loaded_stops gives honest commits s xs stands asks =
-      let entries = asks.2.0 in
-      let here = loaded_line store new commits a.history s c version entries given stands flow number is in
-      let x = asks.0 in
-      let line_is : given ≡ reply_to s x = here ∙ ap (λ y. reply_to s y) (sym asks.2.1) in
-      let done = does honest commits s x stands asks.2 in
-      let held = held_replied store new commits s x a.history m.history b.history stands done (subst (HasRepliedInPart m.history b.history) line_is (gives honest)) in
-      subst (λ ys. StopsIn Reply store commits s ys a b) (sym asks.1) (stops_one Reply store commits s x a b stands held (omega (arith, same, read)))
+  loaded_stops = told_stops h (AsksLoad c d) store new given a m b does (loaded_line store new a.history c version d given flow number is) (reads_nothing (AsksLoad c d) store a.read m.read same) read
 
-pub stopped_load : (h : Bool) (store : Held) (c : ℕ) (d : DeltaValue) (why other : Why) (a b : Seen) → other ≡ why → Stops why h (AsksLoad c d) store a.history b.history → b.read ≡ a.read
-    → StopsAsked other h (AsksOne (AsksLoad c d)) store a b
-stopped_load h store c d why other a b is stops read honest commits s xs stands asks =
-    subst (λ w. StopsIn w store commits s xs a b) (sym is)
-    (subst (λ ys. StopsIn why store commits s ys a b) (sym asks.1) (stops_one why store commits s asks.0 a b stands (stops honest commits s asks.0 stands asks.2) (omega (arith, read))))
+-- ---- a tick
+
+ticked_line : (store : Held) (a : List Event) (moment : ℕ) (given : List ℕ) → given ≡ line.ticked moment → IsLineOf (AsksTick moment) store a given
+ticked_line store a moment given is commits s x stands asked = is ∙ ap (λ y. reply_to s y) (sym asked.0)
+
+module _ (h : Bool) (store new : Held) (moment : ℕ) (given : List ℕ) (a m b : Seen)
+    (does : Does h (AsksTick moment) silent store new a.history m.history) (is : given ≡ line.ticked moment) (same : m.read ≡ a.read) (read : b.read ≡ m.read) where
+  pub ticked_takes : Gives h m.history b.history given → TakesAsked h (AsksOne (AsksTick moment)) store new a b
+  ticked_takes = told_takes h (AsksTick moment) store new given a m b does (ticked_line store a.history moment given is) (reads_nothing (AsksTick moment) store a.read m.read same) read
+
+  pub ticked_stops : GivesInPart h m.history b.history given → StopsAsked Reply h (AsksOne (AsksTick moment)) store a b
+  ticked_stops = told_stops h (AsksTick moment) store new given a m b does (ticked_line store a.history moment given is) (reads_nothing (AsksTick moment) store a.read m.read same) read
+
+-- ---- a run
+
+ran_line : (store new : Held) (a : List Event) (t version : ℕ) (given : List ℕ) → new.flow ≡ store.flow
+    → version ≡ (shelf_at store.catalog (output_in store.flow t)).version + 1 → given ≡ line.ran (task_in new.flow t).name version → IsLineOf (AsksRun t) store a given
+ran_line store new a t version given flow number is commits s x stands asked =
+    is ∙ ap (λ (f : Workflow). line.ran (task_in f t).name version) (flow ∙ stands.flow)
+    ∙ ap (λ n. line.ran (task_in s.flow t).name n) (number ∙ ap (λ (f : Workflow). (shelf_at store.catalog (output_in f t)).version + 1) stands.flow ∙ ap (λ n. n + 1) (version_is store commits a s (output_in s.flow t) stands))
+    ∙ ap (λ y. reply_to s y) (sym asked.0)
+
+pub run_reads : (store : Held) (t before now : ℕ) → now ≤ before + read_size store.catalog (Run t) → ReadsAtMost (AsksRun t) store before now
+run_reads store t before now most s x asked = subst (λ y. now ≤ before + read_size store.catalog y) (sym asked.0) most
+
+module _ (h : Bool) (store new : Held) (t version : ℕ) (given : List ℕ) (a m b : Seen)
+    (does : Does h (AsksRun t) silent store new a.history m.history) (flow : new.flow ≡ store.flow) (number : version ≡ (shelf_at store.catalog (output_in store.flow t)).version + 1)
+    (is : given ≡ line.ran (task_in new.flow t).name version) (most : m.read ≤ a.read + read_size store.catalog (Run t)) (read : b.read ≡ m.read) where
+  pub ran_takes : Gives h m.history b.history given → TakesAsked h (AsksOne (AsksRun t)) store new a b
+  ran_takes = told_takes h (AsksRun t) store new given a m b does (ran_line store new a.history t version given flow number is) (run_reads store t a.read m.read most) read
+
+  pub ran_stops : GivesInPart h m.history b.history given → StopsAsked Reply h (AsksOne (AsksRun t)) store a b
+  ran_stops = told_stops h (AsksRun t) store new given a m b does (ran_line store new a.history t version given flow number is) (run_reads store t a.read m.read most) read
 
 -- ---- a show
 

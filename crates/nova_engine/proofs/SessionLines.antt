@@ -15,13 +15,14 @@ use Rattle.nova_script.specs.declared.refusal.Refusal.{Refusal}
 use Rattle.nova_script.specs.declared.refusal.Refusal.TheVariants.{NotBuilt, UnfinishedLoad}
 use Rattle.nova_script.proofs.Fronts.{front_decides}
 use Rattle.nova_machine.specs.Workflow.{Workflow, is_input, schema_in}
-use Rattle.nova_machine.specs.State.{State}
-use Rattle.nova_machine.specs.Steps.{Step, Load, Refused as RefusedStep, Show, after_all}
+use Rattle.nova_machine.specs.State.{State, is_in_flight}
+use Rattle.nova_machine.specs.Steps.{Step, Load, Refused as RefusedStep, Run, Show, Tick, after_all}
 use Rattle.nova_machine.specs.Building.{built_met, built_only, built_steps, is_built}
 use Rattle.nova_machine.specs.Commands.{around, bad_row, load_steps, loaded_channel, loaded_steps, met_steps, read_rows, rows_for}
+use Rattle.nova_machine.proofs.Commanded.{begins}
 use Rattle.nova_runner.specs.Around.{around_held}
 use Rattle.nova_runner.specs.Held.{Held}
-use Rattle.nova_runner.specs.Steps.{AsksLoad, AsksShow, StoreStands, Why, Memory}
+use Rattle.nova_runner.specs.Steps.{AsksLoad, AsksRun, AsksShow, AsksTick, StoreStands, Why, NoMemory}
 use Rattle.nova_engine.specs.declared.load.Pending.{Pending}
 use Rattle.nova_engine.specs.declared.load.Pending.TheVariants.{Refused, Rows}
 use Rattle.nova_engine.specs.declared.load.Rows.{Rows as KeptRows}
@@ -34,7 +35,7 @@ use Rattle.nova_engine.specs.Seen.{Seen}
 use Rattle.nova_engine.specs.Stopping.{why}
 use Rattle.nova_engine.specs.Taking.{Answers, AsksClose, AsksMet, AsksOne, AsksRefused, StopsAsked, StopsIn, Takes, TakesAsked}
 use Rattle.nova_engine.proofs.Around.{stands_around}
-use Rattle.nova_engine.proofs.LoadLines.{count_names}
+use Rattle.nova_engine.proofs.LoadLines.{count_names, count_tasks}
 use Rattle.nova_engine.proofs.Takings.{stops_at_once, takes_nothing}
 use Rattle.nova_engine.proofs.Verbs.{blank_met}
 
@@ -101,6 +102,20 @@ met_shown c store commits h s xs range stands asks =
     let long = count_names store.flow in
     let below : c < length store.flow.channels = omega (arith, range, long) in
     (Show c, asks, (refl, subst (λ (f : Workflow). c < length f.channels) stands.flow below))
+
+pub met_ticked : (m : ℕ) (store : Held) (commits : List Commit) (h : List Event) (s : State) (xs : List Step) → IsMet (around_held store) (Ok (r.Tick m)) → StoreStands store commits h s → AsksMet (Ok (r.Tick m)) s xs → AsksOne (AsksTick m) s xs
+met_ticked m store commits h s xs range stands asks =
+    let moment = ap (λ (x : Surroundings). x.moment) (stands_around store commits h s stands) in
+    let later = range.0 in
+    (Tick m, asks, (refl, (omega (arith, later, moment), range.1)))
+
+pub met_ran : (t : ℕ) (store : Held) (commits : List Commit) (h : List Event) (s : State) (xs : List Step) → IsMet (around_held store) (Ok (r.Run t)) → StoreStands store commits h s → AsksMet (Ok (r.Run t)) s xs → AsksOne (AsksRun t) s xs
+met_ran t store commits h s xs range stands asks =
+    let around_is = stands_around store commits h s stands in
+    let here : t < length (around s).tasks = subst (λ (x : Surroundings). t < length x.tasks) around_is range.0 in
+    let idle : is_in_flight s t ≡ false = sym (ap (λ (x : Surroundings). x.is_in_flight t) around_is) ∙ range.1 in
+    let many = count_tasks s.flow in
+    (Run t, asks, (refl, begins s t (omega (arith, here, many)) idle))
 
 -- ---- a line that no load takes
 
@@ -208,7 +223,7 @@ module _ (h : Bool) (store : Held) (held : List ℕ) where
       subst (λ l. StopsIn why store commits s (built_steps s (ended_by l line)) a b) (sym none) (stops honest commits s _ stands.stands (alone_steps s line met own here))
 
 -- without memory nothing was done
-pub stops_line : (h : Bool) (store : Held) (pending : Option Pending) (held : List ℕ) (a : Seen) → StopsLines Memory h store pending held a a
+pub stops_line : (h : Bool) (store : Held) (pending : Option Pending) (held : List ℕ) (a : Seen) → StopsLines NoMemory h store pending held a a
 stops_line h store pending held a honest commits s load line stands front = stops_at_once store commits s (built_steps s (ended_by load line)) a stands.stands
 
 -- ---- a line that a load takes

@@ -11,7 +11,7 @@ use Rattle.nova_machine.specs.Steps.{Step, after_all}
 use Rattle.nova_runner.specs.Acts.{IsStepDamage, read_size}
 use Rattle.nova_runner.specs.Files.{IsSettled}
 use Rattle.nova_runner.specs.Held.{Held}
-use Rattle.nova_runner.specs.Steps.{Why, Memory}
+use Rattle.nova_runner.specs.Steps.{Why, NoMemory}
 use Rattle.nova_runner.specs.Steps as step
 use Rattle.nova_runner.proofs.Shows.{current_replied, settled_replied}
 use Rattle.nova_engine.specs.declared.status.Status.{Status}
@@ -59,7 +59,7 @@ stop_end h stop.Disk s m b ends = subst IsStopEnd (sym ends.0) disk_end
 stop_end h stop.Reply s m b ends = subst IsStopEnd (sym ends.0) reply_end
 stop_end h (stop.Damaged file at) s m b ends = damage_end h file at s m b ends
 stop_end h (stop.Full length) s m b ends = subst IsStopEnd (sym ends.0) full_end
-stop_end h stop.Memory s m b ends = subst IsStopEnd (sym ends.0) memory_end
+stop_end h stop.NoMemory s m b ends = subst IsStopEnd (sym ends.0) memory_end
 
 -- ---- what is told
 
@@ -100,7 +100,7 @@ module _ (h : Bool) (honest : IsTrue h) (store : Held) (commits : List Commit) (
         | inr memory ↦ absurd (no_disk memory.0)
       ]))
     where
-      no_disk : step.Disk ≡ Memory → ⊥
+      no_disk : step.Disk ≡ NoMemory → ⊥
       no_disk e = cc
   stopped_told stop.Reply ended b stops ends =
       subst (λ e. SessionTold e store.journal.generation commits store.catalog s input taken a b) (sym ends.0)
@@ -110,7 +110,7 @@ module _ (h : Bool) (honest : IsTrue h) (store : Held) (commits : List Commit) (
         | inr memory ↦ absurd (no_reply memory.0)
       ]))
     where
-      no_reply : step.Reply ≡ Memory → ⊥
+      no_reply : step.Reply ≡ NoMemory → ⊥
       no_reply e = cc
   stopped_told (stop.Damaged file place) ended b stops ends =
       elim stops.ends [
@@ -118,7 +118,7 @@ module _ (h : Bool) (honest : IsTrue h) (store : Held) (commits : List Commit) (
         | inr memory ↦ absurd (no_damage memory.0)
       ]
     where
-      no_damage : step.Damaged file place ≡ Memory → ⊥
+      no_damage : step.Damaged file place ≡ NoMemory → ⊥
       no_damage e = cc
   stopped_told (stop.Full length) ended b stops ends =
       subst (λ e. SessionTold e store.journal.generation commits store.catalog s input taken a b) (sym ends.0)
@@ -129,9 +129,9 @@ module _ (h : Bool) (honest : IsTrue h) (store : Held) (commits : List Commit) (
         | inr memory ↦ absurd (no_full memory.0)
       ]))
     where
-      no_full : step.Full length ≡ Memory → ⊥
+      no_full : step.Full length ≡ NoMemory → ⊥
       no_full e = cc
-  stopped_told stop.Memory ended b stops ends =
+  stopped_told stop.NoMemory ended b stops ends =
       subst (λ e. SessionTold e store.journal.generation commits store.catalog s input taken a b) (sym ends.0)
       (subst (λ x. SessionTold exit.NoMemory store.journal.generation commits store.catalog s input taken a x) (sym ends.1)
       (elim stops.ends [

@@ -15,7 +15,7 @@ use Rattle.nova_machine.specs.Replies.{reply_to, text}
 use Rattle.nova_machine.proofs.Turns.{after_all-append, flow_after, flow_stays, text-append}
 use Rattle.nova_runner.specs.Acts.{MayChange, behind, catalog_behind, own_commit, read_size}
 use Rattle.nova_runner.specs.Held.{Held}
-use Rattle.nova_runner.specs.Steps.{Done, HasKeptRoom, IsShortLog, LosesNone, Stopped, StoreStands, Why, Memory}
+use Rattle.nova_runner.specs.Steps.{Done, HasKeptRoom, IsShortLog, LosesNone, Stopped, StoreStands, Why, NoMemory}
 use Rattle.nova_runner.specs.Workflow.{wiring_of}
 use Rattle.nova_engine.specs.Seen.{Seen}
 use Rattle.nova_engine.specs.Taking.{StepStops, StopsIn, Takes}
@@ -157,8 +157,8 @@ module _ (store mid : Held) (commits : List Commit) (s : State) (xs : List Step)
         at = two.at;
         mid = two.mid;
         takes = takes_both two.at two.done two.mid two.takes;
-        ends = subst (λ t. StepStops why two.at (commits ++ own_commits store.catalog s (xs ++ two.done)) t two.later two.mid b ⊎ ((why ≡ Memory) × (b ≡ two.mid))) (sym state)
-            (subst (λ cs. StepStops why two.at cs (after_all (after_all s xs) two.done) two.later two.mid b ⊎ ((why ≡ Memory) × (b ≡ two.mid))) here two.ends);
+        ends = subst (λ t. StepStops why two.at (commits ++ own_commits store.catalog s (xs ++ two.done)) t two.later two.mid b ⊎ ((why ≡ NoMemory) × (b ≡ two.mid))) (sym state)
+            (subst (λ cs. StepStops why two.at cs (after_all (after_all s xs) two.done) two.later two.mid b ⊎ ((why ≡ NoMemory) × (b ≡ two.mid))) here two.ends);
       }
 
 -- with further steps behind them
@@ -177,7 +177,7 @@ stops_before why store commits s xs ys a b one = record {
 }
 
 -- before the first of them
-pub stops_at_once : (store : Held) (commits : List Commit) (s : State) (xs : List Step) (a : Seen) → StoreStands store commits a.history s → StopsIn Memory store commits s xs a a
+pub stops_at_once : (store : Held) (commits : List Commit) (s : State) (xs : List Step) (a : Seen) → StoreStands store commits a.history s → StopsIn NoMemory store commits s xs a a
 stops_at_once store commits s xs a stands = record {
   done = [];
   later = xs;

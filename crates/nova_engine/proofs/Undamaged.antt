@@ -7,15 +7,21 @@ use Rattle.nova_outside.specs.History.{Event}
 use Rattle.nova_block.specs.Files.{DamagedAt, HoldsBlock}
 use Rattle.nova_path.specs.Lists.{IsOneOf}
 use Rattle.nova_path.specs.declared.interval.Interval.{Interval}
-use Rattle.nova_channel.specs.Reading.{IsFirstBad, block_file}
+use Rattle.nova_channel.specs.Reading.{AreRead, IsFirstBad, block_file}
 use Rattle.nova_commit.specs.declared.commit.Commit.{Commit}
 use Rattle.nova_commit.specs.declared.commit.Commit.TheVariants as commit
 use Rattle.nova_meta.specs.Catalog.{Entered, applied, shelf_at}
 use Rattle.nova_meta.specs.Named.{Channel, Content, Names, State as StatePart}
 use Rattle.nova_machine.specs.Workflow.{Workflow, schema_in}
+use Rattle.nova_delta.specs.Merge.{EntryMap}
+use Rattle.nova_row_codec.specs.Spelling.{spelling_of}
+use Rattle.nova_workflow.specs.declared.flow.Channel.{Channel as Seen}
+use Rattle.nova_machine.specs.Due.{capture_of}
+use Rattle.nova_execution.specs.Made.{run_block}
+use Rattle.nova_execution.specs.Reads.{IsReadDamage, Read, schema_at}
 use Rattle.nova_machine.specs.State.{State, newest}
-use Rattle.nova_machine.specs.Steps.{Step, Load, Show, Tick, after, after_all}
-use Rattle.nova_runner.specs.Acts.{IsStepDamage, MayChange, behind, catalog_behind, own_commit}
+use Rattle.nova_machine.specs.Steps.{Step, Load, Run, Show, Tick, after, after_all}
+use Rattle.nova_runner.specs.Acts.{IsStepDamage, MayChange, behind, catalog_behind, newest_reads, own_commit}
 use Rattle.nova_runner.specs.Files.{IsNamed, Piece, bytes_of}
 use Rattle.nova_runner.specs.Held.{Held}
 use Rattle.nova_runner.specs.Steps.{StoreStands}
@@ -23,6 +29,7 @@ use Rattle.nova_runner.specs.Workflow.{wiring_of}
 use Rattle.nova_runner.proofs.Allowing.{below_next}
 use Rattle.nova_runner.proofs.Flows.{well_wired}
 use Rattle.nova_runner.proofs.Readables.{readable}
+use Rattle.nova_runner.proofs.RunRules.{below_run}
 use Rattle.nova_engine.specs.Turns.{IsTheirs, NoneDamaged, catalog_after, own_commits}
 
 -- ---- the numbers of blocks
@@ -41,12 +48,14 @@ tick_below cat m below (StatePart t part) b z named = below (record { content = 
 below_step : (cat : Entered) (s : State) (x : Step) → AreBelow cat → AreBelow (catalog_behind cat (own_commit cat s x))
 below_step cat s (Load c entries) below =
     λ p named. below_next cat c (length (bytes_of (after s (Load c entries)) (Channel c (newest s c) (newest s c + 1)))) below p.content p.block p.size named
+below_step cat s (Run t) below = λ p named. let lt = below_run cat t (capture_of s t) (length (spelling_of (run_block s t (capture_of s t)))) below p.content p.block p.size named in omega (arith, lt)
 below_step cat s (Tick m) below = λ p named. tick_below cat m below p.content p.block p.size named
 below_step cat s _ below = below
 
 next_step : (cat : Entered) (s : State) (x : Step) → cat.next ≤ (catalog_behind cat (own_commit cat s x)).next
 next_step cat s (Load c entries) = omega arith
 next_step cat s (Tick m) = omega arith
+next_step cat s (Run t) = omega arith
 next_step cat s _ = omega arith
 
 next_after : (cat : Entered) (s : State) (xs : List Step) → cat.next ≤ (catalog_after cat s xs).next
@@ -71,6 +80,30 @@ all_same : (old new : Files) (shelf route : List Interval) → ((y : Interval) �
 all_same old new shelf [] each all = tt
 all_same old new shelf (y ∷ ys) each all = (each y all.0, all_same old new shelf ys each all.1)
 
+all_read : (s : Shape) (old new : Files) (route : List Interval) (blocks : List EntryMap) → AllByRecursion (SameBlock old new) route → AreRead s new route blocks → AreRead s old route blocks
+all_read s old new [] [] same read = read
+all_read s old new [] (d ∷ ds) same read = read
+all_read s old new (y ∷ ys) [] same read = read
+all_read s old new (y ∷ ys) (d ∷ ds) same read = (subst (λ c. HoldsBlock s y.size c (record { schema = s; entries = d })) same.0 read.0, all_read s old new ys ds same.1 read.1)
+
+-- what several reads find damaged
+reads_moved : (channels : List Seen) (cat : Entered) (old new : Files) → ((c : ℕ) (y : Interval) → IsOneOf (shelf_at cat c).intervals y → SameBlock old new y) → (rs : List Read) (file at : ℕ) → IsReadDamage channels cat new rs file at → IsReadDamage channels cat old rs file at
+reads_moved channels cat old new each [] file at damage = damage
+reads_moved channels cat old new each (r ∷ rs) file at (inl damage) = inl (record {
+  route = damage.route;
+  chosen = damage.chosen;
+  bad = first_bad (schema_at channels r.channel) old new damage.route file at (all_same old new (shelf_at cat r.channel).intervals damage.route (each r.channel) damage.chosen.within) damage.bad;
+})
+reads_moved channels cat old new each (r ∷ rs) file at (inr (read, more)) = inr (
+  record {
+    route = read.route;
+    chosen = read.chosen;
+    blocks = read.blocks;
+    read = all_read (schema_at channels r.channel) old new read.route read.blocks (all_same old new (shelf_at cat r.channel).intervals read.route (each r.channel) read.chosen.within) read.read;
+  },
+  reads_moved channels cat old new each rs file at more,
+)
+
 damage_moved : (flow : Workflow) (cat : Entered) (old new : Files) (x : Step) (file at : ℕ) → AreBelow cat → ReadsBelow cat.next old new → IsStepDamage flow cat new x file at → IsStepDamage flow cat old x file at
 damage_moved flow cat old new (Show c) file at below same damage = record {
   route = damage.route;
@@ -79,6 +112,8 @@ damage_moved flow cat old new (Show c) file at below same damage = record {
       (all_same old new (shelf_at cat c).intervals damage.route
       (λ y one. same y.block (below (record { content = Channel c y.from y.to; block = y.block; size = y.size }) one)) damage.chosen.within) damage.bad;
 }
+damage_moved flow cat old new (Run t) file at below same damage =
+    reads_moved flow.channels cat old new (λ c y one. same y.block (below (record { content = Channel c y.from y.to; block = y.block; size = y.size }) one)) (newest_reads cat t) file at damage
 damage_moved flow cat old new _ file at below same damage = damage
 
 -- steps without damage are so in later files
@@ -103,6 +138,9 @@ pub not_own : (g : ℕ) (cat : Entered) (s : State) (x : Step) (b : ℕ) → b <
 not_own g cat s (Load c entries) b lt (inl journal) = omega (arith, journal)
 not_own g cat s (Load c entries) b lt (inr (block, inl e, is)) = omega (arith, lt, e, is)
 not_own g cat s (Load c entries) b lt (inr (block, inr none, is)) = none
+not_own g cat s (Run t) b lt (inl journal) = omega (arith, journal)
+not_own g cat s (Run t) b lt (inr (block, inl e, is)) = omega (arith, lt, e, is)
+not_own g cat s (Run t) b lt (inr (block, inr none, is)) = none
 not_own g cat s (Tick m) b lt (inl journal) = omega (arith, journal)
 not_own g cat s (Tick m) b lt (inr (block, none, is)) = none
 not_own g cat s _ b lt may = may

@@ -1,10 +1,11 @@
 -- What lines meet: which are loads, and that numbers are in range.
-use Rattle.std.proofs.Common.{refl, ◌≡◌, ℕ, ◌+◌, ◌<◌, List, [], ◌∷◌, Bool, true, false, if◌then◌else◌, Option, Some, None, Result, Ok, Err, length, subst, arith}
-use Rattle.std.specs.Prelude.{option_map, IfSome, codes}
+use Rattle.std.proofs.Common.{refl, ◌≡◌, ℕ, ◌+◌, ◌^◌, ◌<◌, ◌≤◌, List, [], ◌∷◌, Bool, true, false, if◌then◌else◌, Option, Some, None, Result, Ok, Err, length, subst, arith}
+use Rattle.std.proofs.lemmas.Bool.Decides.{nat_tests}
+use Rattle.std.specs.Prelude.{option_map, IfSome, codes, nat_lt}
 use Rattle.std.specs.Str.{bytes_eq}
 use Rattle.nova_script.specs.Words.{words_of}
 use Rattle.nova_script.specs.Forms.{command_in, command_of, is_load, is_too_long, name_and_numbers, no_word, one_name, one_number, or_unknown, or_wrong_words, takes_lines, verb_of}
-use Rattle.nova_script.specs.Session.{Surroundings, asked, channel_of, found, input_channel, met_by, place_from, unless}
+use Rattle.nova_script.specs.Session.{Surroundings, asked, channel_of, found, idle_task, input_channel, met_by, place_from, unless}
 use Rattle.nova_script.specs.declared.command.Command.{Command}
 use Rattle.nova_script.specs.declared.command.Command.TheVariants as c
 use Rattle.nova_script.specs.declared.context.Request.{Request}
@@ -12,8 +13,9 @@ use Rattle.nova_script.specs.declared.context.Request.TheVariants as r
 use Rattle.nova_script.specs.declared.forms.Verb.{Verb}
 use Rattle.nova_script.specs.declared.forms.Verb.TheVariants as v
 use Rattle.nova_script.specs.declared.refusal.Refusal.{Refusal}
-use Rattle.nova_script.specs.declared.refusal.Refusal.TheVariants.{LineTooLong, NotAnInputChannel, UnknownChannel}
+use Rattle.nova_script.specs.declared.refusal.Refusal.TheVariants.{ClockBack, InFlight, LineTooLong, NotAnInputChannel, UnknownChannel, UnknownTask}
 use Rattle.nova_machine.specs.Building.{built_met, built_only}
+use Rattle.nova_machine.proofs.Commanded.{Within, within}
 use Rattle.nova_engine.specs.Loading.{AreMet, IsLoadMet, IsMet}
 
 -- ---- ranges
@@ -48,27 +50,39 @@ loaded_met : (x : Surroundings) (place : Option ℕ) → IfSome place (λ p. p <
 loaded_met x None is = tt
 loaded_met x (Some n) is = by_writer x n (x.has_writer n) refl is
 
-command_met : (x : Surroundings) (command : Command) → AreMet x (met_by x (built_only (Ok (Some command))))
-command_met x (c.Load name) = loaded_met x (place_from 0 x.channels name) (first_range x.channels name)
-command_met x (c.Tick m) = tt
-command_met x (c.Run t) = tt
-command_met x (c.Begin t) = tt
-command_met x (c.Finish t) = tt
-command_met x (c.Drop t) = tt
-command_met x c.Work = tt
-command_met x (c.Compact name) = tt
-command_met x (c.Chain name from to) = tt
-command_met x c.Collect = tt
-command_met x (c.Show name) = shown_met x (place_from 0 x.channels name) (first_range x.channels name)
-command_met x (c.Blocks name) = tt
+ticked_met : (x : Surroundings) (m : ℕ) → m ≤ 2 ^ 62 → (b : Bool) → nat_lt m x.moment ≡ b → IsMet x (if b then Err (ClockBack x.moment) else Ok (r.Tick m))
+ticked_met x m low true is = tt
+ticked_met x m low false is = (grind (arith, nat_tests, is), low)
 
-res_met : (x : Surroundings) (res : Result (Option Command) Refusal) → AreMet x (met_by x (built_only res))
-res_met x (Err refusal) = tt
-res_met x (Ok None) = tt
-res_met x (Ok (Some command)) = command_met x command
+by_flight : (x : Surroundings) (n : ℕ) (b : Bool) → x.is_in_flight n ≡ b → n < length x.tasks → IsMet x (asked r.Run (if b then Err InFlight else Ok n))
+by_flight x n true is below = tt
+by_flight x n false is below = (below, is)
+
+ran_met : (x : Surroundings) (place : Option ℕ) → IfSome place (λ p. p < length x.tasks) → IsMet x (asked r.Run (unless x.is_in_flight InFlight (found UnknownTask place)))
+ran_met x None is = tt
+ran_met x (Some n) is = by_flight x n (x.is_in_flight n) refl is
+
+command_met : (x : Surroundings) (command : Command) → Within command → AreMet x (met_by x (built_only (Ok (Some command))))
+command_met x (c.Load name) low = loaded_met x (place_from 0 x.channels name) (first_range x.channels name)
+command_met x (c.Tick m) low = ticked_met x m low (nat_lt m x.moment) refl
+command_met x (c.Run name) low = ran_met x (place_from 0 x.tasks name) (first_range x.tasks name)
+command_met x (c.Begin t) low = tt
+command_met x (c.Finish t) low = tt
+command_met x (c.Drop t) low = tt
+command_met x c.Work low = tt
+command_met x (c.Compact name) low = tt
+command_met x (c.Chain name from to) low = tt
+command_met x c.Collect low = tt
+command_met x (c.Show name) low = shown_met x (place_from 0 x.channels name) (first_range x.channels name)
+command_met x (c.Blocks name) low = tt
+
+res_met : (x : Surroundings) (line : List ℕ) (res : Result (Option Command) Refusal) → command_of line ≡ res → AreMet x (met_by x (built_only res))
+res_met x line (Err refusal) is = tt
+res_met x line (Ok None) is = tt
+res_met x line (Ok (Some command)) is = command_met x command (within line command is)
 
 pub are_met : (x : Surroundings) (line : List ℕ) → AreMet x (built_met x line)
-are_met x line = res_met x (command_of line)
+are_met x line = res_met x line (command_of line) refl
 
 -- ---- loads
 
@@ -91,14 +105,22 @@ asked_show : (res : Result ℕ Refusal) → IsMetBy false (Some (asked r.Show re
 asked_show (Ok n) = tt
 asked_show (Err refusal) = tt
 
+asked_run : (res : Result ℕ Refusal) → IsMetBy false (Some (asked r.Run res))
+asked_run (Ok n) = tt
+asked_run (Err refusal) = tt
+
+asked_tick : (x : Surroundings) (m : ℕ) (b : Bool) → IsMetBy false (Some (if b then Err (ClockBack x.moment) else Ok (r.Tick m)))
+asked_tick x m true = tt
+asked_tick x m false = tt
+
 abbrev is_load_command : Command → Bool
 is_load_command (c.Load name) = true
 is_load_command _ = false
 
 request_by : (x : Surroundings) (command : Command) → IsMetBy (is_load_command command) (met_by x (built_only (Ok (Some command))))
 request_by x (c.Load name) = asked_load (input_channel x name)
-request_by x (c.Tick m) = tt
-request_by x (c.Run t) = tt
+request_by x (c.Tick m) = asked_tick x m (nat_lt m x.moment)
+request_by x (c.Run name) = asked_run (idle_task x name)
 request_by x (c.Begin t) = tt
 request_by x (c.Finish t) = tt
 request_by x (c.Drop t) = tt

@@ -21,7 +21,7 @@ pub record IsJournalOf (files : Files) (commits : List Commit) (flow : Workflow)
   pub log : IsLog (map commit_bytes commits) (files (journal_file generation))
   pub in_order : AreInOrder commits flow cat
 
--- By the catalog of their journal, the first block that is none on the path to a channel's newest version is in this file, and none at this place.
+-- By the catalog of their journal, the first block that is none on a channel's path between two versions is in this file, and none at this place.
 pub record IsBadBlock (files : Files) (file at : ℕ) : Type 0 where
   pub commits : List Commit
   pub flow : Workflow
@@ -29,7 +29,9 @@ pub record IsBadBlock (files : Files) (file at : ℕ) : Type 0 where
   pub journal : IsJournalOf files commits flow catalog
   pub channel : ℕ
   pub in_range : channel < length flow.channels
-  pub damage : IsDamage (schema_in flow channel) files (shelf_at catalog channel).intervals 0 (shelf_at catalog channel).version file at
+  pub from : ℕ
+  pub to : ℕ
+  pub damage : IsDamage (schema_in flow channel) files (shelf_at catalog channel).intervals from to file at
 
 -- Replies were given from then on, the last of them the line that tells a file and a place, and these have this cause.
 pub record TellsDamage (Cause : ℕ → ℕ → Type 0) (a b : List Event) : Type 0 where

@@ -23,7 +23,7 @@ pub record OnlyGave (a b : Seen) (Given : Type 0) : Type 0 where
 -- how a call ends that wasn't handed a text
 abbrev pub unread_end : Unread → Status
 unread_end unread.Source = ReadFault
-unread_end unread.Memory = NoMemory
+unread_end unread.NoMemory = NoMemory
 
 -- how a call ends that was
 abbrev pub IsEndOfText : Status → Type 0
@@ -63,4 +63,4 @@ EndsStopped is_honest stop.Disk status a b = (status ≡ DiskFault) × (b ≡ a)
 EndsStopped is_honest stop.Reply status a b = (status ≡ ReplyFault) × (b ≡ a)
 EndsStopped is_honest (stop.Damaged file at) status a b = DamageTold is_honest file at status a b
 EndsStopped is_honest (stop.Full length) status a b = (status ≡ Full) × (b ≡ a)
-EndsStopped is_honest stop.Memory status a b = (status ≡ NoMemory) × (b ≡ a)
+EndsStopped is_honest stop.NoMemory status a b = (status ≡ NoMemory) × (b ≡ a)

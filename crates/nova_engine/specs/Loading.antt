@@ -1,5 +1,5 @@
 -- A load that is being read: what is kept of it in memory, and what its lines so far are.
-use Rattle.std.specs.Prelude.{◌≡◌, ℕ, ◌<◌, Bool, true, false, List, [], ◌∷◌, ◌++◌, length, Option, Some, None, Result, Ok, Err}
+use Rattle.std.specs.Prelude.{◌≡◌, ℕ, ◌^◌, ◌<◌, ◌≤◌, Bool, true, false, List, [], ◌∷◌, ◌++◌, length, Option, Some, None, Result, Ok, Err}
 use Rattle.std.specs.List.{AllByRecursion, list_any}
 use Rattle.nova_value.specs.Rows.{Shape}
 use Rattle.nova_value.specs.Entries.{FitsEntry}
@@ -21,9 +21,11 @@ use Rattle.nova_engine.specs.declared.load.Pending.{Pending}
 use Rattle.nova_engine.specs.declared.load.Pending.TheVariants.{Refused, Rows}
 use Rattle.nova_engine.specs.declared.load.Rows.{Rows as KeptRows}
 
--- the numbers of what was met are in range, and loads are of channels that no task writes
+-- the numbers of what was met are in range: loads are of channels that no task writes, ticks don't go back, and tasks that are to run aren't in flight
 abbrev pub IsMet : Surroundings → Result Request Refusal → Type 0
 IsMet x (Ok (r.Load c)) = (c < length x.channels) × (x.has_writer c ≡ false)
+IsMet x (Ok (r.Tick m)) = (x.moment ≤ m) × (m ≤ 2 ^ 62)
+IsMet x (Ok (r.Run t)) = (t < length x.tasks) × (x.is_in_flight t ≡ false)
 IsMet x (Ok (r.Show c)) = c < length x.channels
 IsMet x (Ok _) = ⊥
 IsMet x (Err refusal) = Unit {0}

@@ -6,8 +6,8 @@ use Rattle.nova_pig_parse.specs.declared.text.ParseFault.{ParseFault}
 use Rattle.nova_pig_parse.specs.declared.text.ParseFault.TheVariants as parse
 use Rattle.nova_pig_plan.specs.declared.fault.PlanFault.{PlanFault}
 use Rattle.nova_pig_plan.specs.declared.fault.PlanFault.TheVariants as plan
-use Rattle.nova_pig_script.specs.declared.script.ScriptFault.{ScriptFault}
-use Rattle.nova_pig_script.specs.declared.script.ScriptFault.TheVariants as script
+use Rattle.nova_admit.specs.declared.script.ScriptFault.{ScriptFault}
+use Rattle.nova_admit.specs.declared.script.ScriptFault.TheVariants as script
 use Rattle.nova_admit.specs.declared.fault.AdmitFault.{AdmitFault}
 use Rattle.nova_admit.specs.declared.fault.AdmitFault.TheVariants as admit
 use Rattle.nova_script.specs.Replies.{flow_refused, task_refused, script_refused}

@@ -14,7 +14,7 @@ why stop.Disk = step.Disk
 why stop.Reply = step.Reply
 why (stop.Damaged file at) = step.Damaged file at
 why (stop.Full length) = step.Full length
-why stop.Memory = step.Memory
+why stop.NoMemory = step.NoMemory
 
 -- replies were added at most, where the host is honest
 abbrev pub RepliesGrow : Bool → List Event → List Event → Type 0

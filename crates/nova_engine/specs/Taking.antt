@@ -13,7 +13,7 @@ use Rattle.nova_machine.specs.Replies.{text}
 use Rattle.nova_runner.specs.Acts.{read_size}
 use Rattle.nova_runner.specs.Files.{IsSettled}
 use Rattle.nova_runner.specs.Held.{Held}
-use Rattle.nova_runner.specs.Steps.{LosesNone, Stopped, StoreStands, Why, Memory}
+use Rattle.nova_runner.specs.Steps.{LosesNone, Stopped, StoreStands, Why, NoMemory}
 use Rattle.nova_engine.specs.Damage.{IsReadIn}
 use Rattle.nova_engine.specs.Loading.{HoldsLoad, Loading}
 use Rattle.nova_engine.specs.Seen.{Seen}
@@ -55,7 +55,7 @@ pub record StopsIn (why : Why) (store : Held) (commits : List Commit) (s : State
   pub at : Held
   pub mid : Seen
   pub takes : Takes store at commits s done a mid
-  pub ends : StepStops why at (commits ++ own_commits store.catalog s done) (after_all s done) later mid b ⊎ ((why ≡ Memory) × (b ≡ mid))
+  pub ends : StepStops why at (commits ++ own_commits store.catalog s done) (after_all s done) later mid b ⊎ ((why ≡ NoMemory) × (b ≡ mid))
 
 -- what holds of a store behind a command, over every host: it is what the journal says, and it has the workflow that it had
 pub record IsOneStore (is_honest : Bool) (old : Held) (h : List Event) (new : Held) : Type 0 where

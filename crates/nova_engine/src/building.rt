@@ -8,7 +8,10 @@ use nova_script::{Command, Context, Refusal, Request, read_command, request_for}
 fn is_built(command: &Command) -> bool
     ensures { result ≡ is_built_command command.now }
 {
-    matches!(command, Command::Load(_) | Command::Show(_))
+    matches!(
+        command,
+        Command::Load(_) | Command::Tick(_) | Command::Run(_) | Command::Show(_)
+    )
 }
 
 /// A refusal of a line's words, as long as not all commands are built.

@@ -1,9 +1,9 @@
 //! The commands on a store, each with its reply.
-ghost use Rattle.std.specs.Prelude.{◌≡◌, ◌<◌, ℕ, true, length, IfOk, Ok};
+ghost use Rattle.std.specs.Prelude.{◌≡◌, ◌^◌, ◌<◌, ◌≤◌, ℕ, true, length, IfOk, Ok};
 ghost use Rattle.nova_script.specs.declared.context.Request.TheVariants.{Load as LoadOf};
 ghost use Rattle.nova_machine.specs.Workflow.{is_input, schema_in};
 ghost use Rattle.nova_runner.specs.Around.{around_held};
-ghost use Rattle.nova_runner.specs.Steps.{AsksLoad, AsksShow};
+ghost use Rattle.nova_runner.specs.Steps.{AsksLoad, AsksRun, AsksShow, AsksTick};
 ghost use Rattle.nova_engine.specs.Damage.{IsReadIn};
 ghost use Rattle.nova_engine.specs.Loading.{IsMet};
 ghost use Rattle.nova_engine.specs.Seen.{seen};
@@ -31,6 +31,45 @@ pub fn load<H: Host>(store: Store, alloc: Global, host: &mut H, rows: &Rows) -> 
     match store.load(alloc, host, rows.channel, &rows.delta) {
         Ok((store, version)) => {
             let line = Reply::loaded(store.channel_name(rows.channel), version);
+            send(host, &line)?;
+            Ok(store)
+        }
+        Err(stopped) => Err(stop_of(stopped)),
+    }
+}
+
+/// Sets the clock, and replies its line once that is kept.
+fn tick<H: Host>(store: Store, host: &mut H, moment: u64) -> Result<Store, Stop>
+    requires later { store.catalog.moment ≤ moment }
+    requires low { moment ≤ 2 ^ 62 }
+    requires in_host { IsReadIn H.is_honest store (H.history host.old) }
+    ensures answers { Answers H.is_honest (AsksOne (AsksTick moment)) store (seen H.Host host.old) (seen H.Host host.new) result }
+    ensures store { IfOk result (IsOneStore H.is_honest store (H.history host.new)) }
+    ensures cause { HasStopCause H.Host host.old host.new result }
+    ensures grows { RepliesGrow H.is_honest (H.history host.old) (H.history host.new) }
+{
+    match store.tick(host, moment) {
+        Ok(store) => {
+            let line = Reply::ticked(moment);
+            send(host, &line)?;
+            Ok(store)
+        }
+        Err(stopped) => Err(stop_of(stopped)),
+    }
+}
+
+/// Runs a task, and replies the version that it made of its output once that is kept.
+fn run<H: Host>(store: Store, alloc: Global, host: &mut H, task: u32) -> Result<Store, Stop>
+    requires task { task < length store.flow.tasks }
+    requires in_host { IsReadIn H.is_honest store (H.history host.old) }
+    ensures answers { Answers H.is_honest (AsksOne (AsksRun task)) store (seen H.Host host.old) (seen H.Host host.new) result }
+    ensures store { IfOk result (IsOneStore H.is_honest store (H.history host.new)) }
+    ensures cause { HasStopCause H.Host host.old host.new result }
+    ensures grows { RepliesGrow H.is_honest (H.history host.old) (H.history host.new) }
+{
+    match store.run(alloc, host, task) {
+        Ok((store, version)) => {
+            let line = Reply::ran(store.task_name(task), version);
             send(host, &line)?;
             Ok(store)
         }
@@ -81,6 +120,8 @@ pub fn answer<H: Host>(
     ensures grows { RepliesGrow H.is_honest (H.history host.old) (H.history host.new) }
 {
     match met {
+        Ok(Request::Tick(moment)) => tick(store, host, moment),
+        Ok(Request::Run(task)) => run(store, alloc, host, task),
         Ok(Request::Show(channel)) => show(store, alloc, host, channel),
         Ok(_) => refused(store, host, Refusal::NotBuilt),
         Err(refusal) => refused(store, host, refusal),

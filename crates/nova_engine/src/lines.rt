@@ -80,7 +80,7 @@ fn carry_on(reader: LineReader, bytes: &[u8]) -> Result<LineReader, Stop>
     requires { has_newline bytes.now ≡ false }
     ensures session { IfOk result (λ new. new.session ≡ reader.session) }
     ensures held { IfOk result (λ new. new.held ≡ kept (reader.held ++ bytes.now)) }
-    ensures memory { IfErr result (λ stop. stop ≡ Stop.Memory) }
+    ensures memory { IfErr result (λ stop. stop ≡ Stop.NoMemory) }
 {
     let LineReader { session, mut held } = reader;
     held.push(bytes)?;

@@ -69,7 +69,7 @@ fn unread_status(why: Unread) -> Status
 {
     match why {
         Unread::Source => Status::ReadFault,
-        Unread::Memory => Status::NoMemory,
+        Unread::NoMemory => Status::NoMemory,
     }
 }
 
@@ -138,6 +138,6 @@ pub fn end_stopped<H: Host>(host: &mut H, stop: Stop) -> Status
         Stop::Reply => Status::ReplyFault,
         Stop::Damaged { file, at } => tell_damage(host, file, at),
         Stop::Full { length: _ } => Status::Full,
-        Stop::Memory => Status::NoMemory,
+        Stop::NoMemory => Status::NoMemory,
     }
 }

@@ -2,11 +2,10 @@
 ghost use Rattle.std.specs.Prelude.{◌≡◌};
 ghost use Rattle.nova_engine.specs.Refused as spec;
 
-use nova_admit::AdmitFault;
+use nova_admit::{AdmitFault, ScriptFault};
 use nova_flow::FlowFault;
 use nova_pig_parse::ParseFault;
 use nova_pig_plan::PlanFault;
-use nova_pig_script::ScriptFault;
 use nova_runner::TextFault;
 use nova_script::Reply;
 use nova_value::Name;

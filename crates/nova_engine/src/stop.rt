@@ -3,7 +3,7 @@ ghost use Rattle.std.specs.Prelude.{◌≡◌};
 ghost use Rattle.nova_runner.specs.Reading.{why_unshown};
 ghost use Rattle.nova_runner.specs.Steps.{why_of};
 ghost use Rattle.nova_engine.specs.Stopping.{why};
-ghost use Rattle.nova_engine.specs.declared.stop.Stop.TheVariants.{Reply, Memory};
+ghost use Rattle.nova_engine.specs.declared.stop.Stop.TheVariants.{Reply, NoMemory};
 
 use nova_outside::Failed;
 use nova_runner::{Stopped, Unshown};
@@ -20,7 +20,7 @@ pub enum Stop {
     Damaged { file: u64, at: u64 },
     /// A command would take the journal of this length, or a counter, past its bound.
     Full { length: u64 },
-    Memory,
+    NoMemory,
 }
 
 impl From<Failed> for Stop {
@@ -32,10 +32,10 @@ impl From<Failed> for Stop {
 }
 
 impl From<AllocError> for Stop {
-    ghost from_gives = { λ _ e. e ≡ Memory };
+    ghost from_gives = { λ _ e. e ≡ NoMemory };
 
     fn from(_: AllocError) -> Self {
-        Stop::Memory
+        Stop::NoMemory
     }
 }
 
@@ -47,7 +47,7 @@ pub fn stop_of(stopped: Stopped) -> Stop
         Stopped::Disk => Stop::Disk,
         Stopped::Damaged { file, at } => Stop::Damaged { file, at },
         Stopped::Full { length } => Stop::Full { length },
-        Stopped::NoMemory(_) => Stop::Memory,
+        Stopped::NoMemory(_) => Stop::NoMemory,
     }
 }
 
@@ -59,6 +59,6 @@ pub fn stop_of_show(unshown: Unshown) -> Stop
         Unshown::Disk => Stop::Disk,
         Unshown::Damaged { file, at } => Stop::Damaged { file, at },
         Unshown::Reply => Stop::Reply,
-        Unshown::NoMemory => Stop::Memory,
+        Unshown::NoMemory => Stop::NoMemory,
     }
 }

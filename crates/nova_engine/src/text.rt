@@ -18,14 +18,14 @@ const PIECE: usize = 65536;
 #[derive(Clone, Copy, Debug, PartialEq, Eq)]
 pub enum Unread {
     Source,
-    Memory,
+    NoMemory,
 }
 
 impl From<AllocError> for Unread {
-    ghost from_gives = { λ _ e. e ≡ unread.Memory };
+    ghost from_gives = { λ _ e. e ≡ unread.NoMemory };
 
     fn from(_: AllocError) -> Self {
-        Unread::Memory
+        Unread::NoMemory
     }
 }
 

@@ -8,13 +8,12 @@ use crate::compared::{has_all, same_rows};
 use crate::flows::letter;
 use crate::tables::{add_row, table};
 use crate::words::{Words, number_of, read_words};
-use nova_admit::{Pattern, admit_task};
+use nova_admit::{Pattern, ScriptFault, admit_task, plan_of_text};
 use nova_delta::Table;
 use nova_pig_algebra::Plan;
 use nova_pig_eval::{eval, eval_row};
 use nova_pig_pattern::TaskFault;
 use nova_pig_rows::{Relation, rows_of_nodes};
-use nova_pig_script::{ScriptFault, plan_of_text};
 use nova_value::{Row, Schema, copy_row};
 use std::alloc::{AllocError, Global};
 

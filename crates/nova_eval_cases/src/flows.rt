@@ -1,7 +1,6 @@
 //! Workflows with the patterns of their tasks, or their first faults, as lines of text.
-use nova_admit::{AdmitFault, Admitted, Pattern, admit};
+use nova_admit::{AdmitFault, Admitted, Pattern, ScriptFault, admit};
 use nova_flow::read_flow;
-use nova_pig_script::ScriptFault;
 use nova_value::Name;
 use std::alloc::{AllocError, Global};
 

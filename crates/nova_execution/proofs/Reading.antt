@@ -29,7 +29,7 @@ no_read = record { channel = 0; from = 0; to = 0 }
 
 -- ---- the reads of inputs that are read whole
 
-same_new : (m : Mode) → seen_new m ≡ is_new m
+pub same_new : (m : Mode) → seen_new m ≡ is_new m
 same_new mode.New = refl
 same_new mode.All = refl
 

@@ -16,7 +16,7 @@ use Rattle.nova_machine.specs.Writing.{made_version}
 use Rattle.nova_machine.specs.Steps.{Run, add_run, after, after_all, may_begin, with_run, with_version}
 use Rattle.nova_machine.specs.Commands.{work_steps}
 use Rattle.nova_machine.specs.Reachable.{IsReachable}
-use Rattle.nova_machine.specs.Wanted.{WorkLeavesNothingDue}
+use Rattle.nova_histories.specs.NothingDue.{WorkLeavesNothingDue}
 use Rattle.nova_machine.proofs.Kept.{last_push}
 use Rattle.nova_machine.proofs.Reached.{reachable_more}
 use Rattle.nova_machine.proofs.Runs.{history}

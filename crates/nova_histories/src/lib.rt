@@ -2,7 +2,7 @@
 //! that commands reach, where its workflow keeps what admission gives.
 #![tactic(auto)]
 
-ghost use Rattle.nova_machine.specs.Wanted.{WorkLeavesNothingDue};
+ghost use Rattle.nova_histories.specs.NothingDue.{WorkLeavesNothingDue};
 ghost use Rattle.nova_histories.specs.Planned.{AdmittedArePlanned};
 ghost use Rattle.nova_histories.specs.Worked.{WorkedIsPlanned};
 ghost use Rattle.nova_histories.specs.Statements.{BlocksAreDeltas, BlocksLead, CapturesRise, ChannelsKeep, GroupRunsWriteTheirDelta, GroupsAreKept, OutputsAreResults, PlannedReadsAreBlocks, PlannedRunsKeep, RowRunsTakeTables, RowRunsWriteTheirDelta, RunsFollow, VersionsAreTables, WrittenKeysFit};

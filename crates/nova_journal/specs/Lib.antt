@@ -3,4 +3,4 @@ pub mod Fault
 pub mod Laws
 pub mod Log
 pub mod Marks
-pub mod Unread
+pub mod FormatFault

@@ -8,10 +8,10 @@ ghost use Rattle.nova_journal.specs.Marks.{Holds, IsIn, IsMark, IsUnmarked};
 
 use crate::contents::whole;
 use crate::fault::LogFault;
+use crate::format_fault::FormatFault;
 use crate::marks::newest_synced;
 use crate::payload::Payload;
 use crate::reading::read_log;
-use crate::unread::Unread;
 use nova_outside::{Host, write_through};
 use std::alloc::Global;
 use std::marker::Model;
@@ -144,11 +144,11 @@ impl Journal {
                 },
                 payloads,
             )),
-            Err(Unread::At(at)) => Err(LogFault::Damaged {
+            Err(FormatFault::At(at)) => Err(LogFault::Damaged {
                 file,
                 at: at as u64,
             }),
-            Err(Unread::Memory) => Err(LogFault::NoMemory),
+            Err(FormatFault::NoMemory) => Err(LogFault::NoMemory),
         }
     }
 

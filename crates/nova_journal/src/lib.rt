@@ -4,13 +4,13 @@
 
 mod contents;
 mod fault;
+mod format_fault;
 mod framing;
 mod journal;
 mod laws;
 mod marks;
 mod payload;
 mod reading;
-mod unread;
 
 pub use fault::LogFault;
 pub use framing::{frame, frame_tick};

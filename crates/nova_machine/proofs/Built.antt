@@ -21,12 +21,14 @@ use Rattle.nova_machine.specs.Laws.{IsBuiltForm, IsNotBuilt, WordsAreBuilt}
 
 built_command : (ws : List (List ℕ)) → IsBuiltForm ws → (d : Command) × IsCommand ws d × (is_built d ≡ true)
 built_command _ (l.load {c = name} is) = (c.Load name, f.load is, refl)
+built_command _ (l.tick {m} is) = (c.Tick m, f.tick is, refl)
+built_command _ (l.run {t = name} is) = (c.Run name, f.run is, refl)
 built_command _ (l.show {c = name} is) = (c.Show name, f.show is, refl)
 
 built_form : (ws : List (List ℕ)) (d : Command) → IsCommand ws d → is_built d ≡ true → IsBuiltForm ws
 built_form _ _ (f.load is) e = l.load is
-built_form _ _ (f.tick is) e = absurd (cc)
-built_form _ _ (f.run is) e = absurd (cc)
+built_form _ _ (f.tick is) e = l.tick is
+built_form _ _ (f.run is) e = l.run is
 built_form _ _ (f.begin is) e = absurd (cc)
 built_form _ _ (f.finish is) e = absurd (cc)
 built_form _ _ (f.drop is) e = absurd (cc)

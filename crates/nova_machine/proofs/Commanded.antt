@@ -117,11 +117,14 @@ turned : (b : Bool) → (if b then false else true) ≡ false → b ≡ true
 turned true e = refl
 turned false e = absurd cc
 
+-- a task that isn't in flight may begin
+pub begins : (s : State) (t : ℕ) → t < length s.flow.tasks → is_in_flight s t ≡ false → may_begin s t ≡ true
+begins s t low idle = and_true (nat_lt t (length s.flow.tasks)) (not (is_in_flight s t)) (grind (arith, nat_tests, low)) (ap not idle)
+
 idle_begins : (s : State) (name : List ℕ) (t : ℕ) → idle_task (around s) name ≡ Ok t → may_begin s t ≡ true
 idle_begins s name t e =
     let u = unless_ok (is_in_flight s) InFlight (task_of (around s) name) t e in
-    let low = task_below s name t u.0 in
-    and_true (nat_lt t (length s.flow.tasks)) (not (is_in_flight s t)) (grind (arith, nat_tests, low)) (ap not u.1)
+    begins s t (task_below s name t u.0) u.1
 
 begun_flies : (s : State) (name : List ℕ) (t : ℕ) → begun_task (around s) name ≡ Ok t → (t < length s.flow.tasks) × (is_in_flight s t ≡ true)
 begun_flies s name t e =
@@ -129,7 +132,7 @@ begun_flies s name t e =
     (task_below s name t u.0, turned (is_in_flight s t) u.1)
 
 -- the number of a tick has its bound by its form
-abbrev Within : Command → Type 0
+abbrev pub Within : Command → Type 0
 Within (c.Tick m) = m ≤ 2 ^ 62
 Within (c.Load name) = Unit {0}
 Within (c.Run name) = Unit {0}
@@ -212,7 +215,7 @@ in_words : (ws : List (List ℕ)) (d : Command) → command_in ws ≡ Ok (Some d
 in_words [] d e = absurd cc
 in_words (w ∷ ws) d e = known (verb_of w) ws d e
 
-within : (line : List ℕ) (d : Command) → command_of line ≡ Ok (Some d) → Within d
+pub within : (line : List ℕ) (d : Command) → command_of line ≡ Ok (Some d) → Within d
 within line d e = go (is_too_long line) e
   where
     go : (b : Bool) → (if b then Err LineTooLong else command_in (words_of line)) ≡ Ok (Some d) → Within d

@@ -13,6 +13,8 @@ use Rattle.nova_machine.specs.Commands.{around, load_steps, met_steps}
 
 abbrev pub is_built : Command → Bool
 is_built (c.Load name) = true
+is_built (c.Tick m) = true
+is_built (c.Run name) = true
 is_built (c.Show name) = true
 is_built _ = false
 

@@ -7,7 +7,7 @@ use Rattle.std.proofs.lemmas.List.Elements.{filter-append}
 use Rattle.nova_outside.specs.Disk.{Files, Only, SameBut, LeavesSameBut, overlaid}
 use Rattle.nova_outside.specs.History.{Event, Change, IfTrue, Outcome, OutcomeOf, current, replies}
 use Rattle.nova_outside.specs.History.Event.{OnFile, Replied as AddsReply}
-use Rattle.nova_outside.specs.History.Change.{Created as IsCreated, Written as IsWritten, Synced as IsSynced, SyncedInPart as IsSyncedInPart, Removed as IsRemoved}
+use Rattle.nova_outside.specs.History.Change.{Created as IsCreated, Written as IsWritten, Synced as IsSynced, SyncFailed as IsSyncFailed, Removed as IsRemoved}
 use Rattle.nova_mem.specs.Deeds.{with_file, files_before, replies_before, event_of, bytes_in, is_apart, settled, settled_file, told, wrote}
 use Rattle.nova_mem.specs.declared.parts.Deed.{Deed}
 use Rattle.nova_mem.specs.declared.parts.Deed.TheVariants.{Created, Written, Synced, Removed, Replied}
@@ -28,7 +28,7 @@ more_outcomes : (change : Change) (now : Option (List ℕ)) (P Q : Option (List 
 more_outcomes IsCreated now P Q more c o = tt
 more_outcomes (IsWritten at n) now P Q more c o = (o.0, more o.0 o.1, o.2)
 more_outcomes IsSynced now P Q more c o = o
-more_outcomes IsSyncedInPart now P Q more c o = more c o
+more_outcomes IsSyncFailed now P Q more c o = more c o
 more_outcomes IsRemoved now P Q more c o = tt
 
 if_more : (b : Bool) (P Q R S : Type 0) → (P → R) → (Q → S) → IfTrue b P Q → IfTrue b R S

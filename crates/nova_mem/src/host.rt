@@ -3,7 +3,7 @@ ghost use Rattle.std.specs.Prelude.{◌≡◌, ◌↔◌, IsTrue, ◌⊎◌, ◌
 ghost use Rattle.nova_outside.specs.Causes.{HasCause, Rose};
 ghost use Rattle.nova_outside.specs.Disk.{IsAfter, IsNext, LeavesSameBut, Only, Reaches, SameBut, overlaid, piece};
 ghost use Rattle.nova_outside.specs.History.{ChangesInPart, Outcome, RepliesInPart, current, replies};
-ghost use Rattle.nova_outside.specs.History.Change.{Created, Removed, Synced, SyncedInPart, Written};
+ghost use Rattle.nova_outside.specs.History.Change.{Created, Removed, Synced, SyncFailed, Written};
 ghost use Rattle.nova_outside.specs.History.Event.{OnFile, Replied};
 ghost use Rattle.nova_mem.specs.Deeds.{bytes_in};
 ghost use Rattle.nova_mem.specs.Disks.{history_of};
@@ -230,7 +230,7 @@ impl Host for MemHost {
 
     fn sync(&mut self, file: u64) -> Result<(), Failed>
         ensures ok { OnOk result (history_of self.new.disk ≡ OnFile Synced file (current (history_of self.old.disk) file) ∷ history_of self.old.disk) }
-        ensures err { OnErr result (ChangesInPart SyncedInPart file (history_of self.old.disk) (history_of self.new.disk)) }
+        ensures err { OnErr result (ChangesInPart SyncFailed file (history_of self.old.disk) (history_of self.new.disk)) }
         ensures cause { HasCause self.old.disk_faults self.new.disk_faults result }
         ensures reply_faults { self.new.reply_faults ≡ self.old.reply_faults }
         ensures bytes_read { self.new.read_count ≡ self.old.read_count }

@@ -5,7 +5,7 @@ use Rattle.std.proofs.lemmas.Bool.Decides.{nat_tests}
 use Rattle.nova_outside.specs.Disk.{LeavesSameBut, OneChanges, Torn, Tears, TornFrom, overlaid}
 use Rattle.nova_outside.specs.History.{Event, Change, ChangesInPart, Changed, Outcome, OutcomeOf, IfTrue, replies, current, Valid, LeftNow, Meanwhile}
 use Rattle.nova_outside.specs.History.Event.{OnFile, Replied}
-use Rattle.nova_outside.specs.History.Change.{Created, Written, Synced, SyncedInPart, Removed}
+use Rattle.nova_outside.specs.History.Change.{Created, Written, Synced, SyncFailed, Removed}
 use Rattle.nova_outside.proofs.Moments.{started, goes_on, and_then}
 
 pub either : {T E P Q : Type 0} (r : Result T E) → OnOk r P → OnErr r Q → P ⊎ Q
@@ -33,9 +33,9 @@ write_follows at n file old new (inl is) c o = (c, subst (λ (h : List Event). O
 write_follows at n file old new (inr ch) c o = there (Written at n) file ch.now old c (subst (λ (h : List Event). Outcome h file c) ch.is o)
 
 -- a failed sync leaves no more than before
-pub sync_follows : (file : ℕ) (old new : List Event) → ChangesInPart SyncedInPart file old new → (c : Option (List ℕ)) → Outcome new file c → Outcome old file c
+pub sync_follows : (file : ℕ) (old new : List Event) → ChangesInPart SyncFailed file old new → (c : Option (List ℕ)) → Outcome new file c → Outcome old file c
 sync_follows file old new (inl is) c o = subst (λ (h : List Event). Outcome h file c) is o
-sync_follows file old new (inr ch) c o = there SyncedInPart file ch.now old c (subst (λ (h : List Event). Outcome h file c) ch.is o)
+sync_follows file old new (inr ch) c o = there SyncFailed file ch.now old c (subst (λ (h : List Event). Outcome h file c) ch.is o)
 
 here_or_not : (b : Bool) (P Q : Option (List ℕ) → Type 0) (x y : Option (List ℕ)) → P x → Q y → IfTrue b (P (if b then x else y)) (Q (if b then x else y))
 here_or_not true P Q x y p q = p
@@ -57,7 +57,7 @@ stays [] n v = refl
 stays (OnFile Created file now ∷ h) n v = here_or_not (nat_eq file n) (OutcomeOf Created now (Outcome h n)) (Outcome h n) now (current h n) tt (stays h n v.1)
 stays (OnFile (Written at k) file now ∷ h) n v = by_number file n (OutcomeOf (Written at k) now (Outcome h n)) (Outcome h n) now (current h n) (λ is. (current h n, stays h n v.1, subst (λ (m : ℕ). Tears at k (current h m) now) is v.0)) (stays h n v.1)
 stays (OnFile Synced file now ∷ h) n v = here_or_not (nat_eq file n) (OutcomeOf Synced now (Outcome h n)) (Outcome h n) now (current h n) refl (stays h n v.1)
-stays (OnFile SyncedInPart file now ∷ h) n v = by_number file n (Outcome h n) (Outcome h n) now (current h n) (λ is. subst (λ (o : Option (List ℕ)). Outcome h n o) (sym (v.0 ∙ ap (current h) is)) (stays h n v.1)) (stays h n v.1)
+stays (OnFile SyncFailed file now ∷ h) n v = by_number file n (Outcome h n) (Outcome h n) now (current h n) (λ is. subst (λ (o : Option (List ℕ)). Outcome h n o) (sym (v.0 ∙ ap (current h) is)) (stays h n v.1)) (stays h n v.1)
 stays (OnFile Removed file now ∷ h) n v = here_or_not (nat_eq file n) (OutcomeOf Removed now (Outcome h n)) (Outcome h n) now (current h n) tt (stays h n v.1)
 stays (Replied bytes ∷ h) n v = stays h n v
 
@@ -171,8 +171,8 @@ calm_event change file now old mid calm less = record {
     crash n c o = calm.crash n c (fewer n c o)
 
 -- a sync, whatever it answers
-pub calm_sync : {T E : Type 0} (r : Result T E) (file : ℕ) (old mid new : List Event) → Calm old mid → Valid mid → OnOk r (new ≡ OnFile Synced file (current mid file) ∷ mid) → OnErr r (ChangesInPart SyncedInPart file mid new) → Calm old new
+pub calm_sync : {T E : Type 0} (r : Result T E) (file : ℕ) (old mid new : List Event) → Calm old mid → Valid mid → OnOk r (new ≡ OnFile Synced file (current mid file) ∷ mid) → OnErr r (ChangesInPart SyncFailed file mid new) → Calm old new
 calm_sync (Ok x) file old mid new calm valid ok err =
     subst (Calm old) (sym ok) (calm_event Synced file (current mid file) old mid calm (λ c is. subst (λ (o : Option (List ℕ)). Outcome mid file o) (sym is) (stays mid file valid)))
 calm_sync (Err e) file old mid new calm valid ok (inl same) = calm_same old mid new calm same
-calm_sync (Err e) file old mid new calm valid ok (inr ch) = subst (Calm old) (sym ch.is) (calm_event SyncedInPart file ch.now old mid calm (λ c o. o))
+calm_sync (Err e) file old mid new calm valid ok (inr ch) = subst (Calm old) (sym ch.is) (calm_event SyncFailed file ch.now old mid calm (λ c o. o))

@@ -11,7 +11,7 @@ pub data Change : Type 0 where
   Created : Change
   Written : (at n : ℕ) → Change
   Synced : Change
-  SyncedInPart : Change
+  SyncFailed : Change
   Removed : Change
 
 -- what a call did: a file was changed and reads like this now, or bytes were added to the replies
@@ -36,7 +36,7 @@ abbrev pub Fits : Change → Option (List ℕ) → Option (List ℕ) → Type 0
 Fits Created before now = (now ≡ before) ⊎ IsSome now
 Fits (Written at n) before now = Tears at n before now
 Fits Synced before now = now ≡ before
-Fits SyncedInPart before now = now ≡ before
+Fits SyncFailed before now = now ≡ before
 Fits Removed before now = (now ≡ before) ⊎ (now ≡ None)
 
 -- each event may follow those before it
@@ -64,7 +64,7 @@ abbrev pub OutcomeOf : Change → Option (List ℕ) → (Option (List ℕ) → T
 OutcomeOf Created now before c = Unit {0}
 OutcomeOf (Written at n) now before c = TornFrom at n before c
 OutcomeOf Synced now before c = c ≡ now
-OutcomeOf SyncedInPart now before c = before c
+OutcomeOf SyncFailed now before c = before c
 OutcomeOf Removed now before c = Unit {0}
 
 -- the first where the test holds, else the second

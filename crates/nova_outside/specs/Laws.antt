@@ -3,7 +3,7 @@ use Rattle.std.specs.Prelude.{ℕ, ◌+◌, ◌≤◌, max, List, ◌∷◌, ◌
 use Rattle.nova_outside.specs.Disk.{Files, IsImage, LeavesSameBut, SameOutcomes, Tears}
 use Rattle.nova_outside.specs.History.{Event, Change, ChangesInPart, Fits, RepliesInPart, Valid, Outcome, LeftNow, Since, current, replies}
 use Rattle.nova_outside.specs.History.Event.{OnFile, Replied}
-use Rattle.nova_outside.specs.History.Change.{Created, Written, SyncedInPart, Removed}
+use Rattle.nova_outside.specs.History.Change.{Created, Written, SyncFailed, Removed}
 
 -- what is read now is one of the images
 abbrev pub ReadingIsImage : Type 0
@@ -46,7 +46,7 @@ AbsentStaysAbsent = (at n : ℕ) → Tears at n None None
 
 -- a sync that failed leaves what might have been left, all of it and nothing else
 abbrev pub FailedSyncSettlesNothing : Type 0
-FailedSyncSettlesNothing = (file : ℕ) (now : Option (List ℕ)) (earlier : List Event) → SameOutcomes (Outcome earlier file) (Outcome (OnFile SyncedInPart file now ∷ earlier) file)
+FailedSyncSettlesNothing = (file : ℕ) (now : Option (List ℕ)) (earlier : List Event) → SameOutcomes (Outcome earlier file) (Outcome (OnFile SyncFailed file now ∷ earlier) file)
 
 -- a change of a file leaves of every other what might have been left of it
 abbrev pub OthersKeepTheirOutcomes : Type 0

@@ -11,7 +11,7 @@ ghost use Rattle.std.specs.Io.KnownBytes.{ReadConsumes};
 ghost use Rattle.nova_outside.specs.Causes.{HasCause};
 ghost use Rattle.nova_outside.specs.Disk.{IsAfter, IsNext, Reaches, overlaid, piece};
 ghost use Rattle.nova_outside.specs.History.{Event, ChangesInPart, RepliesInPart, Valid, current};
-ghost use Rattle.nova_outside.specs.History.Change.{Created, Removed, Synced, SyncedInPart, Written};
+ghost use Rattle.nova_outside.specs.History.Change.{Created, Removed, Synced, SyncFailed, Written};
 ghost use Rattle.nova_outside.specs.History.Event.{OnFile, Replied};
 
 pub use laws::{crash_laws, failure_laws};
@@ -101,7 +101,7 @@ pub trait Host {
     /// was pending stays pending. A file that is absent may be synced.
     fn sync(&mut self, file: u64) -> Result<(), Failed>
         ensures ok { IsTrue is_honest → OnOk result (history self.new ≡ OnFile Synced file (current (history self.old) file) ∷ history self.old) }
-        ensures err { IsTrue is_honest → OnErr result (ChangesInPart SyncedInPart file (history self.old) (history self.new)) }
+        ensures err { IsTrue is_honest → OnErr result (ChangesInPart SyncFailed file (history self.old) (history self.new)) }
         ensures cause { HasCause (disk_faults self.old) (disk_faults self.new) result }
         ensures reply_faults { reply_faults self.new ≡ reply_faults self.old }
         ensures bytes_read { bytes_read self.new ≡ bytes_read self.old };

@@ -28,8 +28,8 @@ plain_gives x = go (out-PlanExpr x) (sym (roll-out-PlanExpr x))
     at_layer y is row f = ap (λ e. value_of e row f) is
 
     go : (y : PlanExpr-F PlanExpr) → x ≡ roll-PlanExpr y → ValueIs (plain_step y) x
-    go (PlanExpr-F.Col k) is = λ row f. at_layer (PlanExpr-F.Col k) is row f ∙ ap (λ (g : Given). g.value row f) (fold-roll-PlanExpr Given given_step (PlanExpr-F.Col k))
-    go (PlanExpr-F.GroupCol k) is = λ row f. at_layer (PlanExpr-F.GroupCol k) is row f ∙ ap (λ (g : Given). g.value row f) (fold-roll-PlanExpr Given given_step (PlanExpr-F.GroupCol k))
+    go (PlanExpr-F.Column k) is = λ row f. at_layer (PlanExpr-F.Column k) is row f ∙ ap (λ (g : Given). g.value row f) (fold-roll-PlanExpr Given given_step (PlanExpr-F.Column k))
+    go (PlanExpr-F.GroupColumn k) is = λ row f. at_layer (PlanExpr-F.GroupColumn k) is row f ∙ ap (λ (g : Given). g.value row f) (fold-roll-PlanExpr Given given_step (PlanExpr-F.GroupColumn k))
     go (PlanExpr-F.Num n) is = λ row f. at_layer (PlanExpr-F.Num n) is row f ∙ ap (λ (g : Given). g.value row f) (fold-roll-PlanExpr Given given_step (PlanExpr-F.Num n))
     go (PlanExpr-F.Lit t) is = λ row f. at_layer (PlanExpr-F.Lit t) is row f ∙ ap (λ (g : Given). g.value row f) (fold-roll-PlanExpr Given given_step (PlanExpr-F.Lit t))
     go y is = tt

@@ -10,8 +10,9 @@ pub mod Apart
 pub mod Agree
 pub mod Steps
 pub mod Arms
-pub mod FactsOfTrees
+pub mod Marks
 pub mod TreesOfNodes
+pub mod FactsOfTrees
 pub mod KindsOfNodes
 pub mod KindsOfValues
 pub mod KindsOfRows

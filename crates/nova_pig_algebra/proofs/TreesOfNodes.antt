@@ -124,3 +124,7 @@ pub late : (nodes : List Node) (k from : ℕ) → k ≤ from → earlier nodes k
 late nodes k from h =
     let e : nat_lt from k ≡ false = grind (arith, nat_tests, h) in
     ap (λ b. if b then tree_at (trees nodes) from else Nothing) e
+
+-- no tree stands beyond the last node
+pub tree_past : (nodes : List Node) (k : ℕ) → length nodes ≤ k → tree_at (trees nodes) k ≡ Nothing
+tree_past nodes k h = none_past nodes [] nodes k (omega (arith, h))

@@ -54,8 +54,8 @@ pub data Plain : Type 0 where
   Computed : Plain
 
 abbrev pub plain_step : PlanExpr-F PlanExpr → Plain
-plain_step (PlanExpr-F.Col k) = Column k
-plain_step (PlanExpr-F.GroupCol k) = By k
+plain_step (PlanExpr-F.Column k) = Column k
+plain_step (PlanExpr-F.GroupColumn k) = By k
 plain_step (PlanExpr-F.Num n) = Constant (Long n)
 plain_step (PlanExpr-F.Lit t) = Constant (Text t)
 plain_step _ = Computed

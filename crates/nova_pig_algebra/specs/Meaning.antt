@@ -95,8 +95,8 @@ pub record Given : Type 0 where
 abbrev pub value_step : PlanExpr-F Given → Row → Calls → Value
 value_step (PlanExpr-F.Num n) row f = Long n
 value_step (PlanExpr-F.Lit t) row f = Text t
-value_step (PlanExpr-F.Col k) row f = value_at row k
-value_step (PlanExpr-F.GroupCol k) row f = value_at row k
+value_step (PlanExpr-F.Column k) row f = value_at row k
+value_step (PlanExpr-F.GroupColumn k) row f = value_at row k
 value_step (PlanExpr-F.Agg kind column) row f = f (record { kind = kind; column = column })
 value_step (PlanExpr-F.Neg a) row f = Long (wrapped (neg_ℤ (long_of (a.value row f))))
 value_step (PlanExpr-F.Add a b) row f = Long (wrapped (long_of (a.value row f) +ℤ long_of (b.value row f)))

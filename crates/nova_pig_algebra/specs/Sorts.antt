@@ -104,8 +104,8 @@ condition_sort a b = when (has is_condition a && has is_condition b) Condition
 abbrev pub sort_step : Over → PlanExpr-F (Option Sort) → Option Sort
 sort_step o (PlanExpr-F.Num n) = Some long
 sort_step o (PlanExpr-F.Lit t) = Some (Of kind.Text)
-sort_step o (PlanExpr-F.Col k) = col_sort o k
-sort_step o (PlanExpr-F.GroupCol k) = group_sort o k
+sort_step o (PlanExpr-F.Column k) = col_sort o k
+sort_step o (PlanExpr-F.GroupColumn k) = group_sort o k
 sort_step o (PlanExpr-F.Agg c column) = agg_sort o c column
 sort_step o (PlanExpr-F.Neg a) = when (has is_long a) long
 sort_step o (PlanExpr-F.Add a b) = long_sort a b

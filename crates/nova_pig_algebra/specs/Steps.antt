@@ -1,5 +1,5 @@
--- What is known of the nodes, from the left, each by what is known of those before it.
-use Rattle.std.specs.Prelude.{ℕ, List, [], ◌∷◌, ◌++◌, map, slice_index_or, slice_get, Option, Some, None, Bool, true, false, not, ◌&&◌}
+-- What is known of the nodes that are read, from the left, each by what is known of those before it.
+use Rattle.std.specs.Prelude.{◌≡◌, ℕ, ◌<◌, ◌==◌, if◌then◌else◌, List, [], ◌∷◌, map, length, slice_index_or, slice_get, Option, Some, None, Bool, true, false, not, ◌&&◌}
 use Rattle.std.specs.Ordering.{eq_by_cmp}
 use Rattle.nova_value.specs.declared.value.Value.{Value}
 use Rattle.nova_value.specs.Order.{value_cmp}
@@ -8,7 +8,9 @@ use Rattle.nova_pig_algebra.specs.declared.facts.Facts.{Facts}
 use Rattle.nova_pig_algebra.specs.declared.node.PlanExpr.{PlanExpr}
 use Rattle.nova_pig_algebra.specs.declared.node.Node.{Node}
 use Rattle.nova_pig_algebra.specs.declared.node.Node.TheVariants as node
-use Rattle.nova_pig_algebra.specs.Keys.{facts_of, load_facts, foreach_facts, grouped_facts, join_facts, union_facts, distinct_facts, shape_at}
+use Rattle.nova_pig_algebra.specs.Tree.{tree_at, trees}
+use Rattle.nova_pig_algebra.specs.Keys.{facts_of, load_facts, foreach_facts, grouped_facts, join_facts, union_facts, distinct_facts, shape_at, facts}
+use Rattle.nova_pig_algebra.specs.Readers.{last_at}
 
 -- what is known of a node, or that it has no columns and no key where it is none of these
 abbrev pub fact_at : List Facts → ℕ → Facts
@@ -33,10 +35,14 @@ node_facts inputs nodes done (node.Join left left_by right right_by) = join_fact
 node_facts inputs nodes done (node.Union arms) = union_facts (facts_at done arms)
 node_facts inputs nodes done (node.Distinct from) = distinct_facts (fact_at done from)
 
--- what is known of each node, from the left
-abbrev pub facts_after : List Shape → List Node → List Facts → List Node → List Facts
-facts_after inputs nodes done [] = done
-facts_after inputs nodes done (n ∷ rest) = facts_after inputs nodes (done ++ node_facts inputs nodes done n ∷ []) rest
+-- of a node that none reads, nothing is known
+abbrev pub facts_if_read : List Shape → List Node → List Facts → ℕ → Node → Facts
+facts_if_read inputs nodes done last n = if last == 0 then facts_of [] None else node_facts inputs nodes done n
+
+-- of each of the first i nodes that is read, what is known of its tree
+pub record AreKnown (inputs : List Shape) (nodes : List Node) (last : List ℕ) (i : ℕ) (done : List Facts) : Type 0 where
+  pub long : length done ≡ i
+  pub known : (k : ℕ) → k < i → 0 < last_at last k → fact_at done k ≡ facts inputs (tree_at (trees nodes) k)
 
 -- all have a value, and none has w
 abbrev pub each_other : Value → List (Option Value) → Bool

@@ -77,7 +77,7 @@ fn item_constant<'a>(constants: &[Option<Constant<'a>>], item: &'a PlanExpr) -> 
     ensures { result ≡ spec.item_constant constants.now (spec.plain_step (out-PlanExpr item.now)) }
 {
     match item {
-        PlanExpr::Col(column) => constant_at(constants, *column as usize),
+        PlanExpr::Column(column) => constant_at(constants, *column as usize),
         PlanExpr::Num(n) => Some(Constant::long(*n)),
         PlanExpr::Lit(text) => Some(Constant::text(text)),
         _ => None,

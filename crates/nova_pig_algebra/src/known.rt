@@ -1,8 +1,9 @@
-//! What is known of the nodes of a plan, each by what is known of those before it.
-ghost use Rattle.std.specs.Prelude.{◌≡◌, [], None, IfOk, map};
+//! What is known of a node of a plan, by what is known of the nodes that it stands on.
+ghost use Rattle.std.specs.Prelude.{◌≡◌, [], None, IfOk, length};
 ghost use Rattle.std.specs.Option.{option_map};
 ghost use Rattle.nova_pig_algebra.specs.Tree.{tree_at, trees};
 ghost use Rattle.nova_pig_algebra.specs.Keys as spec;
+ghost use Rattle.nova_pig_algebra.specs.Readers.{ClosedFrom};
 ghost use Rattle.nova_pig_algebra.specs.Steps as step;
 
 use crate::columns::column_set;
@@ -11,6 +12,7 @@ use crate::facts::Facts;
 use crate::keys::{distinct_key, foreach_key, join_key, union_key};
 use crate::node::{Node, PlanExpr};
 use crate::places::places_by;
+use crate::readers::last_readers;
 use nova_value::Schema;
 use sqlite_items::Items;
 use std::alloc::{AllocError, Global};
@@ -46,8 +48,8 @@ fn copy_key(alloc: Global, key: &Option<Items<u32>>) -> Result<Option<Items<u32>
     }
 }
 
-/// FILTER: what is known of the operand.
-fn filter_facts<'a>(alloc: Global, from: &Facts<'a>) -> Result<Facts<'a>, AllocError>
+/// A copy of what is known, as of a FILTER by its operand.
+fn copy_facts<'a>(alloc: Global, from: &Facts<'a>) -> Result<Facts<'a>, AllocError>
     ensures { IfOk result (λ f. f ≡ from.now) }
 {
     let constants = copy_constants(alloc, from.constants.as_slice())?;
@@ -178,7 +180,7 @@ fn node_facts<'a>(
     let none = nothing(alloc);
     match node {
         Node::Load { input } => load_facts(alloc, inputs, *input),
-        Node::Filter { from, .. } => filter_facts(alloc, fact_at(done, &none, *from)),
+        Node::Filter { from, .. } => copy_facts(alloc, fact_at(done, &none, *from)),
         Node::Foreach { from, items } => foreach_of(
             alloc,
             nodes.get(*from as usize),
@@ -202,26 +204,61 @@ fn node_facts<'a>(
     }
 }
 
-/// What is known of each node, from the left. A node that names none that stands before it has no
-/// columns and no key.
-pub fn facts_of_nodes<'a>(
+/// What is known of a node, where another one reads it. A node that is read by none costs nothing.
+fn facts_if_read<'a>(
     alloc: Global,
     inputs: &[Schema],
     nodes: &'a [Node],
+    done: &[Facts<'a>],
+    last: usize,
+    node: &'a Node,
+) -> Result<Facts<'a>, AllocError>
+    ensures { IfOk result (λ f. f ≡ step.facts_if_read inputs.now nodes.now done.now last node.now) }
+{
+    if last == 0 {
+        return Ok(nothing(alloc));
+    }
+    node_facts(alloc, inputs, nodes, done, node)
+}
+
+/// What is known of each node that is read, from the left.
+fn facts_of_read<'a>(
+    alloc: Global,
+    inputs: &[Schema],
+    nodes: &'a [Node],
+    last: &[usize],
 ) -> Result<Items<Facts<'a>>, AllocError>
-    ensures { IfOk result (λ fs. fs ≡ map (spec.facts inputs.now) (trees nodes.now)) }
+    requires long { length last.now ≡ length nodes.now }
+    requires closed { ClosedFrom nodes.now 0 last.now }
+    ensures { IfOk result (λ fs. step.AreKnown inputs.now nodes.now last.now (length nodes.now) fs) }
 {
     let mut done = Items::new(alloc);
-    for node in nodes {
-        let facts = node_facts(alloc, inputs, nodes, done.as_slice(), node)?;
+    for at in 0..nodes.len() {
+        let facts = facts_if_read(alloc, inputs, nodes, done.as_slice(), last[at], &nodes[at])?;
         done.push(facts)?;
     }
     Ok(done)
 }
 
+/// What is known of a node, by the nodes that it stands on: no other one is looked at. A node that
+/// names none that stands before it has no columns and no key.
+#[tactic(auto, using(crate::proofs::FactsOfTrees::known_at))]
+pub fn facts_of_node<'a>(
+    alloc: Global,
+    inputs: &[Schema],
+    nodes: &'a [Node],
+    node: u32,
+) -> Result<Facts<'a>, AllocError>
+    ensures { IfOk result (λ f. f ≡ spec.facts inputs.now (tree_at (trees nodes.now) node)) }
+{
+    let none = nothing(alloc);
+    let last = last_readers(alloc, nodes, node)?;
+    let all = facts_of_read(alloc, inputs, nodes, &last)?;
+    copy_facts(alloc, fact_at(all.as_slice(), &none, node))
+}
+
 /// The key columns of the stored node, rising, by the operators that it stands on; none where it
 /// has no key.
-#[tactic(auto, using(crate::proofs::FactsOfTrees::known_at))]
 pub fn key_of_nodes(
     alloc: Global,
     inputs: &[Schema],
@@ -230,7 +267,6 @@ pub fn key_of_nodes(
 ) -> Result<Option<Items<u32>>, AllocError>
     ensures { IfOk result (λ k. k ≡ (spec.facts inputs.now (tree_at (trees nodes.now) stored)).key) }
 {
-    let none = nothing(alloc);
-    let all = facts_of_nodes(alloc, inputs, nodes)?;
-    copy_key(alloc, &fact_at(all.as_slice(), &none, stored).key)
+    let facts = facts_of_node(alloc, inputs, nodes, stored)?;
+    Ok(facts.key)
 }

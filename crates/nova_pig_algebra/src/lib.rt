@@ -14,13 +14,15 @@ mod laws;
 mod node;
 mod places;
 mod plan;
+mod readers;
 
 pub use columns::{column_set, covers, narrow, same_columns};
 pub use facts::{Constant, Facts};
-pub use known::{facts_of_nodes, key_of_nodes};
+pub use known::{facts_of_node, key_of_nodes};
 pub use laws::{
     constants_hold, expressions_depend_on_their_calls, keys_rise, keys_tell_rows_apart,
     rows_fit_their_kinds, trees_are_of_earlier_nodes,
 };
 pub use node::{Node, PlanExpr, Sort};
 pub use plan::Plan;
+pub use readers::{last_readers, read_by};

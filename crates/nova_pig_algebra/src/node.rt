@@ -19,9 +19,9 @@ pub enum PlanExpr {
     /// A text.
     Lit(Str),
     /// A column of a row.
-    Col(u32),
+    Column(u32),
     /// A BY value of a group.
-    GroupCol(u32),
+    GroupColumn(u32),
     /// A call over the members of a group, of a column of theirs; only a COUNT may have none.
     Agg {
         kind: CallKind,

@@ -13,7 +13,7 @@ fn is_column(column: u32, item: &PlanExpr) -> bool
     ensures { result ≡ spec.is_column column (spec.plain_step (out-PlanExpr item.now)) }
 {
     match item {
-        PlanExpr::Col(other) => *other == column,
+        PlanExpr::Column(other) => *other == column,
         _ => false,
     }
 }
@@ -33,7 +33,7 @@ fn is_by(columns: &[u32], column: u32, item: &PlanExpr) -> bool
     ensures { result ≡ spec.is_by columns.now column (spec.plain_step (out-PlanExpr item.now)) }
 {
     match item {
-        PlanExpr::GroupCol(place) => is_column_at(columns, *place, column),
+        PlanExpr::GroupColumn(place) => is_column_at(columns, *place, column),
         _ => false,
     }
 }

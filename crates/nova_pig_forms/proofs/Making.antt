@@ -89,17 +89,17 @@ nothing_more made = λ i. record { exprs = append-nil made.exprs i; columns = ap
 twice_more : (made : Made) (xs ys : List PlanExpr) (cs ds : List ScopeColumn) → more (more made xs cs) ys ds ≡ more made (xs ++ ys) (cs ++ ds)
 twice_more made xs ys cs ds = λ i. record { exprs = append_assoc made.exprs xs ys i; columns = append_assoc made.columns cs ds i }
 
-all_made : (n : ℕ) (made : Made) (cs : List ScopeColumn) → with_all n made cs ≡ more made (numbered p.Col n cs) cs
+all_made : (n : ℕ) (made : Made) (cs : List ScopeColumn) → with_all n made cs ≡ more made (numbered p.Column n cs) cs
 all_made n made [] = sym (nothing_more made)
-all_made n made (c ∷ cs) = all_made (suc n) (with_item made (p.Col n) c) cs ∙ twice_more made (p.Col n ∷ []) (numbered p.Col (suc n) cs) (c ∷ []) cs
+all_made n made (c ∷ cs) = all_made (suc n) (with_item made (p.Column n) c) cs ∙ twice_more made (p.Column n ∷ []) (numbered p.Column (suc n) cs) (c ∷ []) cs
 
 abbrev from_group : ScopeColumn → ScopeColumn
 from_group c = column_with c.kind c.name (Some group_name)
 
-flat_made : (n : ℕ) (made : Made) (cs : List ScopeColumn) → with_flat n made cs ≡ more made (numbered p.GroupCol n cs) (map from_group cs)
+flat_made : (n : ℕ) (made : Made) (cs : List ScopeColumn) → with_flat n made cs ≡ more made (numbered p.GroupColumn n cs) (map from_group cs)
 flat_made n made [] = sym (nothing_more made)
 flat_made n made (c ∷ cs) =
-    flat_made (suc n) (with_item made (p.GroupCol n) (from_group c)) cs ∙ twice_more made (p.GroupCol n ∷ []) (numbered p.GroupCol (suc n) cs) (from_group c ∷ []) (map from_group cs)
+    flat_made (suc n) (with_item made (p.GroupColumn n) (from_group c)) cs ∙ twice_more made (p.GroupColumn n ∷ []) (numbered p.GroupColumn (suc n) cs) (from_group c ∷ []) (map from_group cs)
 
 -- what is answered of an item, after others
 abbrev pub Makes : Scope → Made → Item → Answer Made → Type 0
@@ -108,10 +108,10 @@ Makes s made i (Err cause) = ItemFails s i cause
 
 flat_found : (bag : List ℕ) (by cs : List ScopeColumn) (made : Made) → Makes (Group bag by cs) made item.Flatten (Ok (flattened made by))
 flat_found bag [] cs made = ([], [], r.flat (λ l. omega (arith, l)), flat_made 0 made [])
-flat_found bag (c ∷ []) cs made = (p.GroupCol 0 ∷ [], column_with c.kind (Some group_name) None ∷ [], r.one, refl)
-flat_found bag (c ∷ d ∷ by) cs made = (numbered p.GroupCol 0 (c ∷ d ∷ by), map from_group (c ∷ d ∷ by), r.flat (λ l. omega (arith, l)), flat_made 0 made (c ∷ d ∷ by))
+flat_found bag (c ∷ []) cs made = (p.GroupColumn 0 ∷ [], column_with c.kind (Some group_name) None ∷ [], r.one, refl)
+flat_found bag (c ∷ d ∷ by) cs made = (numbered p.GroupColumn 0 (c ∷ d ∷ by), map from_group (c ∷ d ∷ by), r.flat (λ l. omega (arith, l)), flat_made 0 made (c ∷ d ∷ by))
 
-flat_read : (by : List ScopeColumn) (made : Made) → length by ≢ 1 → flattened made by ≡ more made (numbered p.GroupCol 0 by) (map from_group by)
+flat_read : (by : List ScopeColumn) (made : Made) → length by ≢ 1 → flattened made by ≡ more made (numbered p.GroupColumn 0 by) (map from_group by)
 flat_read [] made never = flat_made 0 made []
 flat_read (c ∷ []) made never = absurd (never (omega arith))
 flat_read (c ∷ d ∷ by) made never = flat_made 0 made (c ∷ d ∷ by)
@@ -162,7 +162,7 @@ value_found s made x name after = step (expr_of s x) refl (expr_found s x)
     step (Err cause) given h = r.expression h
 
 item_found : (s : Scope) (made : Made) (i : Item) → Makes s made i (item_of s made i)
-item_found (Rows cs) made item.All = (numbered p.Col 0 cs, cs, r.all, all_made 0 made cs)
+item_found (Rows cs) made item.All = (numbered p.Column 0 cs, cs, r.all, all_made 0 made cs)
 item_found (Group bag by cs) made item.All = r.all
 item_found (Rows cs) made item.Flatten = r.flat
 item_found (Group bag by cs) made item.Flatten = flat_found bag by cs made

@@ -255,15 +255,15 @@ pub ref_found : (s : Scope) (f : Field) → Referred s f (ref_of s f)
 ref_found (Rows cs) f = over_rows cs f (field_of cs f) (named_found cs f)
 ref_found (Group bag by cs) f = group_found bag by cs f
 
-whole_read : (by : List ScopeColumn) (c : ScopeColumn) → by ≡ c ∷ [] → whole_group by ≡ Ok (typed (p.GroupCol 0) (Of c.kind))
+whole_read : (by : List ScopeColumn) (c : ScopeColumn) → by ≡ c ∷ [] → whole_group by ≡ Ok (typed (p.GroupColumn 0) (Of c.kind))
 whole_read by c is = ap whole_group is
 
-group_read : (bag : List ℕ) {by : List ScopeColumn} {f : Field} {k : ℕ} {c : ScopeColumn} → NamesGroup by f k c → group_field bag by f ≡ Ok (typed (p.GroupCol k) (Of c.kind))
+group_read : (bag : List ℕ) {by : List ScopeColumn} {f : Field} {k : ℕ} {c : ScopeColumn} → NamesGroup by f k c → group_field bag by f ≡ Ok (typed (p.GroupColumn k) (Of c.kind))
 group_read bag {by} (r.group {c = c} is) = whole_read by c is
 group_read bag {by} (r.first {c = c} is) = whole_read by c is
 group_read bag {by} (r.part {name = name} {k = k} {c = c} h) =
     ap (λ a. first a (λ k. Ok (group_place by k))) (is_only (is_named name) (HasName name) (name_decides name) by k c h)
-    ∙ ap (λ j. Ok (typed (p.GroupCol k) (Of j))) (kind_there by k c h.at)
+    ∙ ap (λ j. Ok (typed (p.GroupColumn k) (Of j))) (kind_there by k c h.at)
 
 whole_failed : (by : List ScopeColumn) → length by ≢ 1 → whole_group by ≡ Err fault.WrongType
 whole_failed [] never = refl
@@ -292,7 +292,7 @@ group_failed bag {by} (r.first never) = whole_failed by never
 
 pub ref_read : {s : Scope} {f : Field} {x : PlanExpr} {c : ScopeColumn} → Refers s f x c → ref_of s f ≡ Ok (typed x (Of c.kind))
 ref_read (r.rows {cs = cs} {f = f} {k = k} {c = c} h) =
-    ap (λ a. first a (λ k. Ok (column_place cs k))) (names_read h) ∙ ap (λ j. Ok (typed (p.Col k) (Of j))) (kind_there cs k c (named_at h))
+    ap (λ a. first a (λ k. Ok (column_place cs k))) (names_read h) ∙ ap (λ j. Ok (typed (p.Column k) (Of j))) (kind_there cs k c (named_at h))
 ref_read (r.groups {bag = bag} h) = group_read bag h
 
 pub ref_failed : {s : Scope} {f : Field} {cause : Cause} → RefFails s f cause → ref_of s f ≡ Err cause

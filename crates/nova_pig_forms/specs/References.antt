@@ -78,8 +78,8 @@ pub data GroupFails (bag : List ℕ) (by : List ScopeColumn) : Field → Cause �
 
 -- what a reference outside a call is in the plan, and the column that it names
 pub data Refers : Scope → Field → PlanExpr → ScopeColumn → Type 0 where
-  rows : {cs : List ScopeColumn} {f : Field} {k : ℕ} {c : ScopeColumn} → Names cs f k c → Refers (Rows cs) f (p.Col k) c
-  groups : {bag : List ℕ} {by cs : List ScopeColumn} {f : Field} {k : ℕ} {c : ScopeColumn} → NamesGroup by f k c → Refers (Group bag by cs) f (p.GroupCol k) c
+  rows : {cs : List ScopeColumn} {f : Field} {k : ℕ} {c : ScopeColumn} → Names cs f k c → Refers (Rows cs) f (p.Column k) c
+  groups : {bag : List ℕ} {by cs : List ScopeColumn} {f : Field} {k : ℕ} {c : ScopeColumn} → NamesGroup by f k c → Refers (Group bag by cs) f (p.GroupColumn k) c
 
 pub data RefFails : Scope → Field → Cause → Type 0 where
   rows : {cs : List ScopeColumn} {f : Field} {cause : Cause} → NameFails cs f cause → RefFails (Rows cs) f cause

@@ -121,10 +121,10 @@ numbered expr n (c ∷ cs) = expr n ∷ numbered expr (suc n) cs
 -- the expressions and the columns that an item makes: `*` and `FLATTEN(group)` are written out, and each other item
 -- is a value
 pub data ItemMakes : Scope → Item → List PlanExpr → List ScopeColumn → Type 0 where
-  all : {cs : List ScopeColumn} → ItemMakes (Rows cs) item.All (numbered p.Col 0 cs) cs
+  all : {cs : List ScopeColumn} → ItemMakes (Rows cs) item.All (numbered p.Column 0 cs) cs
   -- one column named `group` where there is one BY column, and otherwise those with the origin `group`
-  one : {bag : List ℕ} {cs : List ScopeColumn} {c : ScopeColumn} → ItemMakes (Group bag (c ∷ []) cs) item.Flatten (p.GroupCol 0 ∷ []) (column_with c.kind (Some group_name) None ∷ [])
-  flat : {bag : List ℕ} {by cs : List ScopeColumn} → length by ≢ 1 → ItemMakes (Group bag by cs) item.Flatten (numbered p.GroupCol 0 by) (map (λ c. column_with c.kind c.name (Some group_name)) by)
+  one : {bag : List ℕ} {cs : List ScopeColumn} {c : ScopeColumn} → ItemMakes (Group bag (c ∷ []) cs) item.Flatten (p.GroupColumn 0 ∷ []) (column_with c.kind (Some group_name) None ∷ [])
+  flat : {bag : List ℕ} {by cs : List ScopeColumn} → length by ≢ 1 → ItemMakes (Group bag by cs) item.Flatten (numbered p.GroupColumn 0 by) (map (λ c. column_with c.kind c.name (Some group_name)) by)
   value : {s : Scope} {x : Expr} {name : Option (List ℕ)} {after : Option Kind} {v : PlanExpr} {k : Kind} {l : Label}
       → Resolves s x v (Of k) → IsKindAfter after k → IsLabel s name x l → ItemMakes s (item.Value x name after) (v ∷ []) (column_with k l.0 l.1 ∷ [])
 

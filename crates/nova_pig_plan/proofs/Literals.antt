@@ -18,13 +18,13 @@ has-Lit : (t : List ℕ) → has_values (p.Lit t) ≡ literals_step (PlanExpr-F.
 unfolding has_values
 has-Lit t = ap has_values (sym (p.rolls-Lit t)) ∙ fold-roll-PlanExpr Bool literals_step (PlanExpr-F.Lit t)
 
-has-Col : (k : ℕ) → has_values (p.Col k) ≡ literals_step (PlanExpr-F.Col k)
+has-Column : (k : ℕ) → has_values (p.Column k) ≡ literals_step (PlanExpr-F.Column k)
 unfolding has_values
-has-Col k = ap has_values (sym (p.rolls-Col k)) ∙ fold-roll-PlanExpr Bool literals_step (PlanExpr-F.Col k)
+has-Column k = ap has_values (sym (p.rolls-Column k)) ∙ fold-roll-PlanExpr Bool literals_step (PlanExpr-F.Column k)
 
-has-GroupCol : (k : ℕ) → has_values (p.GroupCol k) ≡ literals_step (PlanExpr-F.GroupCol k)
+has-GroupColumn : (k : ℕ) → has_values (p.GroupColumn k) ≡ literals_step (PlanExpr-F.GroupColumn k)
 unfolding has_values
-has-GroupCol k = ap has_values (sym (p.rolls-GroupCol k)) ∙ fold-roll-PlanExpr Bool literals_step (PlanExpr-F.GroupCol k)
+has-GroupColumn k = ap has_values (sym (p.rolls-GroupColumn k)) ∙ fold-roll-PlanExpr Bool literals_step (PlanExpr-F.GroupColumn k)
 
 has-Agg : (c : CallKind) (k : Option ℕ) → has_values (p.Agg c k) ≡ literals_step (PlanExpr-F.Agg c k)
 unfolding has_values
@@ -73,11 +73,11 @@ num n h = has-Num n ∙ h
 pub lit : (t : List ℕ) → is_text t ≡ true → has_values (p.Lit t) ≡ true
 lit t h = has-Lit t ∙ h
 
-pub col : (k : ℕ) → has_values (p.Col k) ≡ true
-col k = has-Col k
+pub col : (k : ℕ) → has_values (p.Column k) ≡ true
+col k = has-Column k
 
-pub group_col : (k : ℕ) → has_values (p.GroupCol k) ≡ true
-group_col k = has-GroupCol k
+pub group_col : (k : ℕ) → has_values (p.GroupColumn k) ≡ true
+group_col k = has-GroupColumn k
 
 pub agg : (c : CallKind) (k : Option ℕ) → has_values (p.Agg c k) ≡ true
 agg c k = has-Agg c k

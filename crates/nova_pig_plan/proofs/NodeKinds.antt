@@ -24,7 +24,7 @@ use Rattle.nova_pig_plan.specs.Items.{same_kind, value_kind, with_kind as with_k
 use Rattle.nova_pig_plan.specs.Plans.{Aliases, find, known, some_or, ungrouped, defined, filter_rows, foreach, distinct}
 use Rattle.nova_pig_plan.specs.Sorts.{Over, Row, Bag, over, kinds, of_kind, has, sort_of, Sorted}
 use Rattle.nova_pig_plan.specs.Kinded.{with_kind, item_kinds, as_rows, filter_over, foreach_over, distinct_over, node_over, overs, input_kinds, Kinded}
-use Rattle.nova_pig_plan.proofs.Sorted.{expr_sorted, sort-Col, sort-GroupCol}
+use Rattle.nova_pig_plan.proofs.Sorted.{expr_sorted, sort-Column, sort-GroupColumn}
 
 -- what is found stands at its place
 pub found_in : {A B : Type 0} (f : A → B) (name : List ℕ) (n : ℕ) (es : List (List ℕ × A)) (k : ℕ) (x : A) → find name n es ≡ Some (k, x) → (j : ℕ) × ((k ≡ n + j) × (slice_get (map (λ e. f e.1) es) j ≡ Some (f x)))
@@ -127,23 +127,23 @@ module _ (o : Over) where
 all_kinded : (ks : List Kind) (n : ℕ) (m : Made) (cs : List ScopeColumn) → ((i : ℕ) → slice_get ks (n + i) ≡ slice_get (kinds cs) i) → MadeKinded (Row ks) (Ok m) → MadeKinded (Row ks) (Ok (with_all n m cs))
 all_kinded ks n m [] at h = h
 all_kinded ks n m (c ∷ cs) at h =
-    all_kinded ks (suc n) (with_item m (p.Col n) c) cs
+    all_kinded ks (suc n) (with_item m (p.Column n) c) cs
     (λ i. ap (slice_get ks) (omega arith) ∙ at (suc i))
-    (one_more (Row ks) m (p.Col n) c (sort-Col (Row ks) n ∙ ap of_kind (ap (slice_get ks) (omega arith) ∙ at 0)) h)
+    (one_more (Row ks) m (p.Column n) c (sort-Column (Row ks) n ∙ ap of_kind (ap (slice_get ks) (omega arith) ∙ at 0)) h)
 
 flat_kinded : (ks js : List Kind) (n : ℕ) (m : Made) (cs : List ScopeColumn) → ((i : ℕ) → slice_get ks (n + i) ≡ slice_get (kinds cs) i) → MadeKinded (Bag ks js) (Ok m) → MadeKinded (Bag ks js) (Ok (with_flat n m cs))
 flat_kinded ks js n m [] at h = h
 flat_kinded ks js n m (c ∷ cs) at h =
-    flat_kinded ks js (suc n) (with_item m (p.GroupCol n) _) cs
+    flat_kinded ks js (suc n) (with_item m (p.GroupColumn n) _) cs
     (λ i. ap (slice_get ks) (omega arith) ∙ at (suc i))
-    (one_more (Bag ks js) m (p.GroupCol n) _ (sort-GroupCol (Bag ks js) n ∙ ap of_kind (ap (slice_get ks) (omega arith) ∙ at 0)) h)
+    (one_more (Bag ks js) m (p.GroupColumn n) _ (sort-GroupColumn (Bag ks js) n ∙ ap of_kind (ap (slice_get ks) (omega arith) ∙ at 0)) h)
 
 from_0 : (ks : List Kind) (i : ℕ) → slice_get ks (0 + i) ≡ slice_get ks i
 from_0 ks i = ap (slice_get ks) (omega arith)
 
 flattened_kinded : (by : List ScopeColumn) (js : List Kind) (m : Made) → MadeKinded (Bag (kinds by) js) (Ok m) → MadeKinded (Bag (kinds by) js) (Ok (flattened m by))
 flattened_kinded [] js m h = h
-flattened_kinded (c ∷ []) js m h = one_more (Bag (kinds (c ∷ [])) js) m (p.GroupCol 0) _ (sort-GroupCol (Bag (kinds (c ∷ [])) js) 0) h
+flattened_kinded (c ∷ []) js m h = one_more (Bag (kinds (c ∷ [])) js) m (p.GroupColumn 0) _ (sort-GroupColumn (Bag (kinds (c ∷ [])) js) 0) h
 flattened_kinded (c ∷ d ∷ by) js m h = flat_kinded (kinds (c ∷ d ∷ by)) js 0 m (c ∷ d ∷ by) (from_0 (kinds (c ∷ d ∷ by))) h
 
 item_kinded : (s : Scope) (m : Made) (i : Item) → MadeKinded (over s) (Ok m) → MadeKinded (over s) (item_of s m i)

@@ -36,13 +36,13 @@ pub sort-Lit : (o : Over) (t : List ℕ) → sort_of o (p.Lit t) ≡ sort_step o
 unfolding sort_of
 sort-Lit o t = ap (sort_of o) (sym (p.rolls-Lit t)) ∙ fold-roll-PlanExpr (Option Sort) (sort_step o) (PlanExpr-F.Lit t)
 
-pub sort-Col : (o : Over) (k : ℕ) → sort_of o (p.Col k) ≡ sort_step o (PlanExpr-F.Col k)
+pub sort-Column : (o : Over) (k : ℕ) → sort_of o (p.Column k) ≡ sort_step o (PlanExpr-F.Column k)
 unfolding sort_of
-sort-Col o k = ap (sort_of o) (sym (p.rolls-Col k)) ∙ fold-roll-PlanExpr (Option Sort) (sort_step o) (PlanExpr-F.Col k)
+sort-Column o k = ap (sort_of o) (sym (p.rolls-Column k)) ∙ fold-roll-PlanExpr (Option Sort) (sort_step o) (PlanExpr-F.Column k)
 
-pub sort-GroupCol : (o : Over) (k : ℕ) → sort_of o (p.GroupCol k) ≡ sort_step o (PlanExpr-F.GroupCol k)
+pub sort-GroupColumn : (o : Over) (k : ℕ) → sort_of o (p.GroupColumn k) ≡ sort_step o (PlanExpr-F.GroupColumn k)
 unfolding sort_of
-sort-GroupCol o k = ap (sort_of o) (sym (p.rolls-GroupCol k)) ∙ fold-roll-PlanExpr (Option Sort) (sort_step o) (PlanExpr-F.GroupCol k)
+sort-GroupColumn o k = ap (sort_of o) (sym (p.rolls-GroupColumn k)) ∙ fold-roll-PlanExpr (Option Sort) (sort_step o) (PlanExpr-F.GroupColumn k)
 
 pub sort-Agg : (o : Over) (c : CallKind) (k : Option ℕ) → sort_of o (p.Agg c k) ≡ sort_step o (PlanExpr-F.Agg c k)
 unfolding sort_of
@@ -152,12 +152,12 @@ column_sorted : (cs : List ScopeColumn) (f : Field) → Sorted (Row (kinds cs)) 
 column_sorted cs f = step (field_of cs f) refl
   where
     step : (a : Answer ℕ) → field_of cs f ≡ a → Sorted (Row (kinds cs)) (first a (λ k. Ok (column_place cs k)))
-    step (Ok k) e = sort-Col (Row (kinds cs)) k ∙ ap of_kind (kind_got cs k (field_within cs f k e))
+    step (Ok k) e = sort-Column (Row (kinds cs)) k ∙ ap of_kind (kind_got cs k (field_within cs f k e))
     step (Err c) e = tt
 
 whole_sorted : (by : List ScopeColumn) (ks : List Kind) → Sorted (Bag (kinds by) ks) (whole_group by)
 whole_sorted [] ks = tt
-whole_sorted (c ∷ []) ks = sort-GroupCol (Bag (kinds (c ∷ [])) ks) 0
+whole_sorted (c ∷ []) ks = sort-GroupColumn (Bag (kinds (c ∷ [])) ks) 0
 whole_sorted (c ∷ d ∷ by) ks = tt
 
 group_sorted : (bag : List ℕ) (by : List ScopeColumn) (ks : List Kind) (f : Field) → Sorted (Bag (kinds by) ks) (group_field bag by f)
@@ -171,7 +171,7 @@ group_sorted bag by ks (field.Of alias name) = tt
 group_sorted bag by ks (field.GroupOf name) = step (the_one (places (is_named name) 0 by)) refl
   where
     step : (a : Answer ℕ) → the_one (places (is_named name) 0 by) ≡ a → Sorted (Bag (kinds by) ks) (first a (λ k. Ok (group_place by k)))
-    step (Ok k) e = let r = within (is_named name) 0 by k e in sort-GroupCol (Bag (kinds by) ks) k ∙ ap of_kind (kind_got by k (omega (arith, r.1)))
+    step (Ok k) e = let r = within (is_named name) 0 by k e in sort-GroupColumn (Bag (kinds by) ks) k ∙ ap of_kind (kind_got by k (omega (arith, r.1)))
     step (Err c) e = tt
 group_sorted bag by ks (field.At zero) = whole_sorted by ks
 group_sorted bag by ks (field.At (suc zero)) = tt

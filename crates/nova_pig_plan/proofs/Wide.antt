@@ -51,13 +51,13 @@ with_same m k (inr w) e c = go (kept.is_wide k)
 
 all_wider : (n : ℕ) (m : Made) (cs : List ScopeColumn) → IsWide m → IsWide (all.with_all n m cs)
 all_wider n m [] h = h
-all_wider n m (c ∷ cs) h = all_wider (suc n) (all.with_item m (p.Col n) c) cs (wider m (p.Col n) c h)
+all_wider n m (c ∷ cs) h = all_wider (suc n) (all.with_item m (p.Column n) c) cs (wider m (p.Column n) c h)
 
 flat_wider : (n : ℕ) (m : Made) (cs : List ScopeColumn) → IsWide m → IsWide (all.with_flat n m cs)
 flat_wider n m [] h = h
 flat_wider n m (c ∷ cs) h =
     let d = all.column_with c.kind c.name (Some group_name) in
-    flat_wider (suc n) (all.with_item m (p.GroupCol n) d) cs (wider m (p.GroupCol n) d h)
+    flat_wider (suc n) (all.with_item m (p.GroupColumn n) d) cs (wider m (p.GroupColumn n) d h)
 
 -- where the kept ones are too wide, so are all
 both_wide : (m k : Made) → Same m k → IsWide k → IsWide m
@@ -66,10 +66,10 @@ both_wide m k (inr w) h = w.0
 
 all_same : (n : ℕ) (m k : Made) (cs : List ScopeColumn) → Same m k → Same (all.with_all n m cs) (kept.with_all n k cs)
 all_same n m k [] s = s
-all_same n m k (c ∷ cs) s = go (kept.is_wide k) refl (all_same (suc n) (all.with_item m (p.Col n) c) (kept.with_item k (p.Col n) c) cs (with_same m k s (p.Col n) c))
+all_same n m k (c ∷ cs) s = go (kept.is_wide k) refl (all_same (suc n) (all.with_item m (p.Column n) c) (kept.with_item k (p.Column n) c) cs (with_same m k s (p.Column n) c))
   where
-    go : (b : Bool) → kept.is_wide k ≡ b → Same (all.with_all n m (c ∷ cs)) (kept.with_all (suc n) (kept.with_item k (p.Col n) c) cs)
-        → Same (all.with_all n m (c ∷ cs)) (if b then k else kept.with_all (suc n) (kept.with_item k (p.Col n) c) cs)
+    go : (b : Bool) → kept.is_wide k ≡ b → Same (all.with_all n m (c ∷ cs)) (kept.with_all (suc n) (kept.with_item k (p.Column n) c) cs)
+        → Same (all.with_all n m (c ∷ cs)) (if b then k else kept.with_all (suc n) (kept.with_item k (p.Column n) c) cs)
     go true t rest = let w = wide_test k t in inr (all_wider n m (c ∷ cs) (both_wide m k s w), w)
     go false t rest = rest
 
@@ -77,16 +77,16 @@ flat_same : (n : ℕ) (m k : Made) (cs : List ScopeColumn) → Same m k → Same
 flat_same n m k [] s = s
 flat_same n m k (c ∷ cs) s =
     let d = all.column_with c.kind c.name (Some group_name) in
-    go (kept.is_wide k) refl (flat_same (suc n) (all.with_item m (p.GroupCol n) d) (kept.with_item k (p.GroupCol n) d) cs (with_same m k s (p.GroupCol n) d))
+    go (kept.is_wide k) refl (flat_same (suc n) (all.with_item m (p.GroupColumn n) d) (kept.with_item k (p.GroupColumn n) d) cs (with_same m k s (p.GroupColumn n) d))
   where
-    go : (b : Bool) → kept.is_wide k ≡ b → Same (all.with_flat n m (c ∷ cs)) (kept.with_flat (suc n) (kept.with_item k (p.GroupCol n) (all.column_with c.kind c.name (Some group_name))) cs)
-        → Same (all.with_flat n m (c ∷ cs)) (if b then k else kept.with_flat (suc n) (kept.with_item k (p.GroupCol n) (all.column_with c.kind c.name (Some group_name))) cs)
+    go : (b : Bool) → kept.is_wide k ≡ b → Same (all.with_flat n m (c ∷ cs)) (kept.with_flat (suc n) (kept.with_item k (p.GroupColumn n) (all.column_with c.kind c.name (Some group_name))) cs)
+        → Same (all.with_flat n m (c ∷ cs)) (if b then k else kept.with_flat (suc n) (kept.with_item k (p.GroupColumn n) (all.column_with c.kind c.name (Some group_name))) cs)
     go true t rest = let w = wide_test k t in inr (flat_wider n m (c ∷ cs) (both_wide m k s w), w)
     go false t rest = rest
 
 flattened_same : (m k : Made) (by : List ScopeColumn) → Same m k → Same (all.flattened m by) (kept.flattened k by)
 flattened_same m k [] s = s
-flattened_same m k (c ∷ []) s = with_same m k s (p.GroupCol 0) (all.column_with c.kind (Some group_name) None)
+flattened_same m k (c ∷ []) s = with_same m k s (p.GroupColumn 0) (all.column_with c.kind (Some group_name) None)
 flattened_same m k (c ∷ d ∷ cs) s = flat_same 0 m k (c ∷ d ∷ cs) s
 
 -- answers with one fault, or with such items

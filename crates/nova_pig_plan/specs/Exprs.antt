@@ -31,11 +31,11 @@ group_name = 103 ∷ 114 ∷ 111 ∷ 117 ∷ 112 ∷ []
 
 -- a group by several columns isn't a value
 abbrev pub whole_group : List ScopeColumn → Answer Typed
-whole_group (c ∷ []) = Ok (typed (p.GroupCol 0) (Of c.kind))
+whole_group (c ∷ []) = Ok (typed (p.GroupColumn 0) (Of c.kind))
 whole_group _ = Err fault.WrongType
 
 abbrev pub group_place : List ScopeColumn → ℕ → Typed
-group_place by k = typed (p.GroupCol k) (Of (kind_at by k))
+group_place by k = typed (p.GroupColumn k) (Of (kind_at by k))
 
 -- a reference over a group and outside a call
 abbrev pub group_field : List ℕ → List ScopeColumn → Field → Answer Typed
@@ -47,7 +47,7 @@ group_field bag by (field.At (suc zero)) = Err fault.BagMisused
 group_field bag by (field.At (suc (suc n))) = Err fault.UnknownField
 
 abbrev pub column_place : List ScopeColumn → ℕ → Typed
-column_place cs k = typed (p.Col k) (Of (kind_at cs k))
+column_place cs k = typed (p.Column k) (Of (kind_at cs k))
 
 abbrev pub ref_of : Scope → Field → Answer Typed
 ref_of (Rows cs) f = first (field_of cs f) (λ k. Ok (column_place cs k))

@@ -67,15 +67,15 @@ with_item made e c = record { exprs = made.exprs ++ e ∷ []; columns = made.col
 -- the columns as they stand, from place n on
 abbrev pub with_all : ℕ → Made → List ScopeColumn → Made
 with_all n made [] = made
-with_all n made (c ∷ cs) = with_all (suc n) (with_item made (p.Col n) c) cs
+with_all n made (c ∷ cs) = with_all (suc n) (with_item made (p.Column n) c) cs
 
 -- the BY columns from place n on, with the origin `group`
 abbrev pub with_flat : ℕ → Made → List ScopeColumn → Made
 with_flat n made [] = made
-with_flat n made (c ∷ cs) = with_flat (suc n) (with_item made (p.GroupCol n) (column_with c.kind c.name (Some group_name))) cs
+with_flat n made (c ∷ cs) = with_flat (suc n) (with_item made (p.GroupColumn n) (column_with c.kind c.name (Some group_name))) cs
 
 abbrev pub flattened : Made → List ScopeColumn → Made
-flattened made (c ∷ []) = with_item made (p.GroupCol 0) (column_with c.kind (Some group_name) None)
+flattened made (c ∷ []) = with_item made (p.GroupColumn 0) (column_with c.kind (Some group_name) None)
 flattened made cs = with_flat 0 made cs
 
 abbrev pub value_of : Scope → Made → Expr → Option (List ℕ) → Option Kind → Answer Made

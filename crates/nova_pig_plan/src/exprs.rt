@@ -102,7 +102,7 @@ fn whole_group(alloc: Global, by: &[ScopeColumn<'_>]) -> Result<Typed, Stop>
     ensures { AnswersAs result (spec.whole_group by.now) }
 {
     match by {
-        [column] => typed(alloc, PlanExpr::GroupCol(0), Sort::Of(column.kind)),
+        [column] => typed(alloc, PlanExpr::GroupColumn(0), Sort::Of(column.kind)),
         _ => Err(Stop::Fault(Cause::WrongType)),
     }
 }
@@ -130,7 +130,7 @@ fn group_field(
         Field::Of(..) => Err(Stop::Fault(Cause::UnknownField)),
         Field::GroupOf(name) => {
             let at = narrow(place_named(by, name.bytes())?)?;
-            typed(alloc, PlanExpr::GroupCol(at), Sort::Of(kind_at(by, at)))
+            typed(alloc, PlanExpr::GroupColumn(at), Sort::Of(kind_at(by, at)))
         }
         Field::At(n) => match *n {
             0 => whole_group(alloc, by),
@@ -149,7 +149,7 @@ fn ref_of(alloc: Global, scope: &Scope<'_>, field: &Field) -> Result<Typed, Stop
         Scope::Rows { columns } => {
             let columns = columns.as_slice();
             let at = field_of(columns, field)?;
-            typed(alloc, PlanExpr::Col(at), Sort::Of(kind_at(columns, at)))
+            typed(alloc, PlanExpr::Column(at), Sort::Of(kind_at(columns, at)))
         }
         Scope::Group {
             bag,

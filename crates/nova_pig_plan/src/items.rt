@@ -183,7 +183,7 @@ fn add_all<'a>(made: &mut Made<'a>, columns: &[ScopeColumn<'a>]) -> Result<(), S
             return Ok(());
         }
         let place = narrow(at)?;
-        add(made, PlanExpr::Col(place), column_again(column))?;
+        add(made, PlanExpr::Column(place), column_again(column))?;
     }
     Ok(())
 }
@@ -200,7 +200,7 @@ fn add_flat<'a>(made: &mut Made<'a>, by: &[ScopeColumn<'a>]) -> Result<(), Stop>
         let place = narrow(at)?;
         add(
             made,
-            PlanExpr::GroupCol(place),
+            PlanExpr::GroupColumn(place),
             ScopeColumn {
                 kind: column.kind,
                 name: text_again(&column.name),
@@ -217,7 +217,7 @@ fn flatten<'a>(made: &mut Made<'a>, by: &[ScopeColumn<'a>]) -> Result<(), Stop>
     ensures { AnswersBy (λ _. made.new) result (Ok (kept.flattened made.old by.now)) }
 {
     match by {
-        [column] => add(made, PlanExpr::GroupCol(0), label(column.kind, b"group")),
+        [column] => add(made, PlanExpr::GroupColumn(0), label(column.kind, b"group")),
         _ => add_flat(made, by),
     }
 }

@@ -11,23 +11,15 @@ use Rattle.nova_pig_algebra.specs.Keys.{is_one_of}
 use Rattle.nova_pig_algebra.specs.Tree.{Tree, tree_at, arms_at, foreach_tree, tree_of, trees_after, trees, rows, arm_rows, rows_at, joined, distinct}
 use Rattle.nova_pig_rows.specs.Grouping.{grouped}
 use Rattle.nova_pig_rows.specs.Picked.{picked}
-use Rattle.nova_pig_rows.specs.Readers.{read, read_by, read_at, last_at, ClosedFrom, Keeps, KeepsLater}
+use Rattle.nova_pig_algebra.specs.Readers.{read, read_by, read_at, last_at, ClosedFrom}
+use Rattle.nova_pig_algebra.proofs.Marks.{itself, behind}
+use Rattle.nova_pig_rows.specs.Keeps.{Keeps, KeepsLater}
 use Rattle.nova_pig_rows.specs.Step.{node_rows, foreach_rows}
 use Rattle.nova_pig_rows.specs.Led.{Led}
 
 pub picked_passing : (p : Row → Bool) (xs : List Row) → picked (map p xs) xs ≡ filter p xs
 picked_passing p [] = refl
 picked_passing p (x ∷ xs) = ap (λ l. if p x then x ∷ l else l) (picked_passing p xs)
-
-itself : (k : ℕ) (ks : List ℕ) → is_one_of k (k ∷ ks) ≡ true
-itself k ks = let e : (k == k) ≡ true = grind (arith, nat_tests) in ap (λ b. b || is_one_of k ks) e
-
-behind : (k j : ℕ) (ks : List ℕ) → is_one_of k ks ≡ true → is_one_of k (j ∷ ks) ≡ true
-behind k j ks e = go (k == j)
-  where
-    go : (b : Bool) → (b || is_one_of k ks) ≡ true
-    go true = refl
-    go false = e
 
 module _ (tables : List (List Row)) (nodes : List Node) (done : List (List Row)) (ts : List Tree) where
   abbrev Has : ℕ → Type 0

@@ -2,7 +2,8 @@
 ghost use Rattle.std.specs.Prelude.{◌≡◌, ◌+◌, ◌<◌, ◌==◌, [], ◌∷◌, ◌++◌, length, flat_map, IfOk, OnOk};
 ghost use Rattle.nova_pig_algebra.specs.Tree.{rows_at};
 ghost use Rattle.nova_pig_rows.specs.Picked.{picked};
-ghost use Rattle.nova_pig_rows.specs.Readers as spec;
+ghost use Rattle.nova_pig_algebra.specs.Readers.{last_at};
+ghost use Rattle.nova_pig_rows.specs.Keeps as spec;
 
 use crate::held::Held;
 use crate::relation::{Relation, pick_shared};
@@ -31,7 +32,7 @@ impl<'a> Work<'a> {
 
     /// When a node is read last: the number of its last reader and one more.
     pub(crate) fn last_of(&self, node: usize) -> usize
-        ensures { result ≡ spec.last_at self.now.last.items node }
+        ensures { result ≡ last_at self.now.last.items node }
     {
         match self.last.get(node) {
             Some(last) => *last,

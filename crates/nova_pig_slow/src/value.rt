@@ -206,8 +206,8 @@ pub(crate) fn value(
     match expr {
         PlanExpr::Num(n) => Ok(Value::Long(*n)),
         PlanExpr::Lit(text) => Ok(Value::Text(text.copy(alloc)?)),
-        PlanExpr::Col(place) => at(alloc, row, *place),
-        PlanExpr::GroupCol(place) => at(alloc, row, *place),
+        PlanExpr::Column(place) => at(alloc, row, *place),
+        PlanExpr::GroupColumn(place) => at(alloc, row, *place),
         PlanExpr::Agg { kind, column } => call(alloc, *kind, *column, members),
         PlanExpr::Neg(a) => {
             let a = long(alloc, a.get(), row, members)?;

@@ -67,7 +67,7 @@ plain_kind ks x κ s h = go (out-PlanExpr x) (sym (roll-out-PlanExpr x))
     of_text t e f = let same : kind.Text ≡ κ = cc in subst (λ k. IsOf k (Text t)) same (text_is t f)
 
     go : (y : PlanExpr-F PlanExpr) → x ≡ roll-PlanExpr y → HasKind ks κ (plain_step y)
-    go (PlanExpr-F.Col k) is = inl (kind_of_column ks κ (slice_get ks k) (sym (fold-roll-PlanExpr (Option Sort) (sort_step (OverRows ks)) (PlanExpr-F.Col k)) ∙ sort_at (PlanExpr-F.Col k) is))
+    go (PlanExpr-F.Column k) is = inl (kind_of_column ks κ (slice_get ks k) (sym (fold-roll-PlanExpr (Option Sort) (sort_step (OverRows ks)) (PlanExpr-F.Column k)) ∙ sort_at (PlanExpr-F.Column k) is))
     go (PlanExpr-F.Num n) is = of_long n (sym (fold-roll-PlanExpr (Option Sort) (sort_step (OverRows ks)) (PlanExpr-F.Num n)) ∙ sort_at (PlanExpr-F.Num n) is) (sym (fold-roll-PlanExpr Bool literals_step (PlanExpr-F.Num n)) ∙ has_at (PlanExpr-F.Num n) is)
     go (PlanExpr-F.Lit t) is = of_text t (sym (fold-roll-PlanExpr (Option Sort) (sort_step (OverRows ks)) (PlanExpr-F.Lit t)) ∙ sort_at (PlanExpr-F.Lit t) is) (sym (fold-roll-PlanExpr Bool literals_step (PlanExpr-F.Lit t)) ∙ has_at (PlanExpr-F.Lit t) is)
     go y is = tt

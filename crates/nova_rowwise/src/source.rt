@@ -28,8 +28,8 @@ fn plain(item: &PlanExpr) -> Field<'_>
     ensures { plain_of result ≡ plain_item item.now }
 {
     match item {
-        PlanExpr::Col(column) => Field::Column(*column),
-        PlanExpr::GroupCol(column) => Field::By(*column),
+        PlanExpr::Column(column) => Field::Column(*column),
+        PlanExpr::GroupColumn(column) => Field::By(*column),
         PlanExpr::Num(n) => Field::Number(*n),
         PlanExpr::Lit(text) => Field::Text(text),
         _ => Field::Computed,

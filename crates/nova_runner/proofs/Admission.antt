@@ -6,17 +6,18 @@ use Rattle.nova_pig_algebra.specs.Plan.{plan_key, tree_of_plan}
 use Rattle.nova_pig_pattern.specs.declared.task.PatternKind.{PatternKind}
 use Rattle.nova_pig_pattern.specs.declared.task.PatternKind.TheVariants.{NonIncremental, Stateless, Lookup, Stateful}
 use Rattle.nova_pig_pattern.specs.declared.task.TaskFault.{TaskFault}
-use Rattle.nova_pig_pattern.specs.Table.{Fits, NoneBased}
+use Rattle.nova_pig_pattern.specs.Table.{AreAll, Fits, NoneBased}
 use Rattle.nova_pig_pattern.proofs.Tabled.{admission_is_the_table}
 use Rattle.nova_admit.specs.Flows.{HasPattern, fault_of, if_built, input_of, inputs_of, is_built, told}
 use Rattle.nova_admit.specs.TaskPlans.{admitted, kind_of, plan_of}
 use Rattle.nova_admit.specs.declared.fault.AdmitFault.{AdmitFault}
 use Rattle.nova_admit.specs.declared.plans.Pattern.{Pattern}
 
--- it reads nothing as new that is written anew, and writes the whole of its output anew
+-- it reads nothing as new, and writes the whole of its output anew
 pub record Allowed (f : Flow) (t : Task) : Type 0 where
   pub none_based : NoneBased (map (input_of f) t.inputs)
   pub anew : t.based ≡ true
+  pub whole : AreAll (map (input_of f) t.inputs)
   pub pattern : (q : Pattern) → HasPattern f t q → kind_of q ≡ NonIncremental
 
 kind_same : (a b : PatternKind) → (let r : Result PatternKind AdmitFault = Ok a in r) ≡ Ok b → a ≡ b
@@ -52,5 +53,6 @@ module _ (f : Flow) (t : Task) where
       record {
         none_based = table.1;
         anew = (subst (Fits p.inputs (inputs_of f t) t.based (tree_of_plan p)) is.1 table.2.fits).1;
+        whole = (subst (Fits p.inputs (inputs_of f t) t.based (tree_of_plan p)) is.1 table.2.fits).0;
         pattern = λ r have. (pattern_is r have).1;
       }

@@ -60,6 +60,13 @@ load_fit cat c size room =
     let is : nat_le (total (shelf_at cat c) + size) bound ≡ true = (and_both (nat_le (total (shelf_at cat c) + size) bound) (may_rise (shelf_at cat c).version && nat_lt cat.next bound) room).0 in
     grind (arith, nat_tests)
 
+-- and the number of the new version is in range
+load_rise : (cat : Entered) (c size : ℕ) → has_room cat (commit.Load c cat.next size) ≡ true → (shelf_at cat c).version < 2 ^ 62
+load_rise cat c size room =
+    let counters = (and_both (nat_le (total (shelf_at cat c) + size) bound) (may_rise (shelf_at cat c).version && nat_lt cat.next bound) room).1 in
+    let is : nat_lt (shelf_at cat c).version bound ≡ true = (and_both (may_rise (shelf_at cat c).version) (nat_lt cat.next bound) counters).0 in
+    grind (arith, nat_tests)
+
 -- what a catalog names behind a load's commit is below its next number again
 pub below_next : (cat : Entered) (c size : ℕ) → ((p : Piece) → IsNamed cat p → p.block < cat.next) → (w : Content) (b z : ℕ) → Names (applied cat (commit.Load c cat.next size)) w b z → b < cat.next + 1
 below_next cat c size below (StatePart t part) b z named = let lt = below (record { content = StatePart t part; block = b; size = z }) named in omega (arith, lt)
@@ -82,6 +89,9 @@ load_readable cat f c size read input wired is room =
       next = omega (arith, low);
       shelved = at_set (λ n (k : Shelved). IsShelved k) cat.channels c (next_shelf based sh cat.next size) nothing_shelved is.shelved (next_kept based sh cat.next size (is.shelved c) (load_fit cat c size room));
       many = length-set cat.channels c (next_shelf based sh cat.next size) ∙ is.many;
+      timely = is.timely;
+      versions = at_set (λ n (k : Shelved). k.version ≤ 2 ^ 62) cat.channels c (next_shelf based sh cat.next size) nothing_shelved is.versions (let up = load_rise cat c size room in omega (arith, up));
+      runs = is.runs;
     }
   where
     longer : (sh : Shelved) (based : Bool) → based ≡ false → AllByRecursion (λ (y : Interval). y.to ≤ sh.version) sh.intervals → (b z : ℕ) → HasPath (spans sh.intervals) 0 sh.version → HasPath (spans (placed (interval_of (if based then 0 else sh.version) (sh.version + 1) b z) sh.intervals)) 0 (sh.version + 1)

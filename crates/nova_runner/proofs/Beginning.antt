@@ -33,11 +33,11 @@ use Rattle.nova_runner.proofs.Readables.{same_count}
 
 -- ---- what triggers see of a state that is drawn
 
-tellings : (cat : Entered) (s : State) → drawn cat ≡ sketch s → map told_progress cat.tasks ≡ map told_done s.tasks
+pub tellings : (cat : Entered) (s : State) → drawn cat ≡ sketch s → map told_progress cat.tasks ≡ map told_done s.tasks
 unfolding drawn sketch
 tellings cat s same = ap (λ (k : Sketch). k.tasks) same
 
-told_at : (cat : Entered) (s : State) → map told_progress cat.tasks ≡ map told_done s.tasks → (t : ℕ) → told_progress (progress_at cat t) ≡ told_done (done_at s t)
+pub told_at : (cat : Entered) (s : State) → map told_progress cat.tasks ≡ map told_done s.tasks → (t : ℕ) → told_progress (progress_at cat t) ≡ told_done (done_at s t)
 told_at cat s same t =
     sym (get_or-map told_progress cat.tasks t no_run)
     ∙ ap (λ (ts : List Told). slice_index_or ts t (record { runs = 0; last = None })) same

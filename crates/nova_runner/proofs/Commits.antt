@@ -177,7 +177,7 @@ module _ (ps : List Payload) (p : Payload) (qs : List Payload) (split : ps ≡ p
   pub stuck_read : (flow : Workflow) → IsFirstFlow bytes (Some flow) → (w : Wiring) → w ≡ wiring_of flow → (why : NotRead) → IsStuckTold w (payloads_of ps) why → NotReadTold why (payloads_of ps)
   stuck_read flow first w wiring (not_read.At at) told = inr (subst (λ (xs : List Payload). IsFirstRefused at (payloads_of xs)) (sym split)
       (refused_first flow first.1 p.bytes.items (payloads_of qs) (sym same ∙ first.0) at (subst (λ (v : Wiring). IsStuck v at (payloads_of (p ∷ qs))) wiring (subst (λ (xs : List Payload). IsStuck w at (payloads_of xs)) split told))))
-  stuck_read flow first w wiring not_read.Memory told = tt
+  stuck_read flow first w wiring not_read.NoMemory told = tt
 
 pub no_flow : (bytes : List ℕ) (o : Option Workflow) → o ≡ None → IsFirstFlow bytes o → IsRefused [] bytes
 no_flow bytes None is first = first

@@ -25,7 +25,7 @@ use Rattle.nova_flow.proofs.Places.{none_any}
 use Rattle.nova_flow.proofs.WholeFlows.{flows_are_whole}
 use Rattle.nova_pig_algebra.specs.Plan.{IsPlan, Plan}
 use Rattle.nova_pig_pattern.specs.OutputKey.{HasOutputKey}
-use Rattle.nova_pig_pattern.specs.Table.{NoneBased}
+use Rattle.nova_pig_pattern.specs.Table.{AreAll, NoneBased}
 use Rattle.nova_admit.specs.Flows.{HasPattern, HavePatterns, channel_at, input_of, is_new as seen_new}
 use Rattle.nova_admit.specs.TaskPlans.{plan_of}
 use Rattle.nova_admit.specs.declared.plans.Pattern.{Pattern}
@@ -42,6 +42,7 @@ use Rattle.nova_machine.specs.Workflow.{TaskPlan, Workflow, channel_in, input_in
 use Rattle.nova_machine.specs.RunLaws.{IsOwned}
 use Rattle.nova_machine.specs.Sound.{IsWired}
 use Rattle.nova_machine.proofs.Keeping.{bases_keep}
+use Rattle.nova_runner.specs.Flights.{flow_of}
 use Rattle.nova_runner.specs.Opening.{IsFirstFlow, IsFlowIn, IsNone, IsSaid}
 use Rattle.nova_runner.specs.Texts.{ArePlans, HasFlow, task_plan, workflow_of}
 use Rattle.nova_runner.specs.Workflow.{FlowsAreAdmitted, IsAdmitted, IsPlanned, edge_of, named_by, wire_of, wires_of, wiring_of}
@@ -310,6 +311,21 @@ pub flows_are_admitted : FlowsAreAdmitted
 flows_are_admitted text w has =
     subst (IsAdmitted text) has.is (is_admitted text has.flow has.patterns (flows_are_whole text has.flow has.read) has.admitted has.plans (short_text text has.flow has.read))
 
+-- a task that is admitted reads all of each input
+pub all_read : (w : Workflow) → HasFlow w.text w → (t : ℕ) → t < length w.tasks → AreAll (map (input_of (flow_of w)) (task_in w t).inputs)
+all_read w has = subst (λ (v : Workflow). (t : ℕ) → t < length v.tasks → AreAll (map (input_of (flow_of v)) (task_in v t).inputs)) has.is
+    (λ t lt. (admission w.text has.flow has.patterns (flows_are_whole w.text has.flow has.read) has.admitted has.plans t lt).whole)
+
+-- its inputs are channels
+pub inputs_in : (w : Workflow) → HasFlow w.text w → (t : ℕ) → t < length w.tasks → (k : ℕ) → k < length (task_in w t).inputs → (slice_index_or (task_in w t).inputs k no_input).channel < length w.channels
+inputs_in w has = subst (λ (v : Workflow). (t : ℕ) → t < length v.tasks → (k : ℕ) → k < length (task_in v t).inputs → (slice_index_or (task_in v t).inputs k no_input).channel < length v.channels) has.is
+    (λ t lt k low. (task w.text has.flow has.patterns (flows_are_whole w.text has.flow has.read) has.admitted has.plans t lt).inputs k (slice_index_or (slice_index_or has.flow.tasks t no_task).inputs k no_input) (at_place (slice_index_or has.flow.tasks t no_task).inputs k no_input low))
+
+-- and they are few
+pub few_inputs : (w : Workflow) → HasFlow w.text w → (t : ℕ) → t < length w.tasks → length (task_in w t).inputs ≤ 16
+few_inputs w has = subst (λ (v : Workflow). (t : ℕ) → t < length v.tasks → length (task_in v t).inputs ≤ 16) has.is
+    (λ t lt. (task w.text has.flow has.patterns (flows_are_whole w.text has.flow has.read) has.admitted has.plans t lt).few_inputs)
+
 -- what holds of each workflow that a text says
 module _ (f : Workflow) (read : HasFlow f.text f) where
   pub own : IsAdmitted f.text f
@@ -332,6 +348,13 @@ module _ (f : Workflow) (read : HasFlow f.text f) where
       none_based_by : (o : Option ℕ) → is_none o ≡ true → elim o as (λ _. Bool) [ None ↦ false | Some t ↦ (catalog.wire_at (wiring_of f) t).based ] ≡ false
       none_based_by None is = refl
       none_based_by (Some t) is = absurd (cc)
+
+  pub wire_known : (t : ℕ) → t < length f.tasks → catalog.wire_at (wiring_of f) t ≡ wire_of (task_in f t) (plan_in f t)
+  unfolding wiring_of
+  wire_known t lt = wires_at f.tasks f.plans t own.planned lt
+
+  pub output_known : (t : ℕ) → t < length f.tasks → (catalog.wire_at (wiring_of f) t).output ≡ output_in f t
+  output_known t lt = ap (λ (x : Wire). x.output) (wire_known t lt)
 
   pub free : (c : ℕ) → is_input f c ≡ true → is_based f c ≡ false
   free c input = sym (own.based c) ∙ free_known c input

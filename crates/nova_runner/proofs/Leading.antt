@@ -35,7 +35,7 @@ use Rattle.nova_runner.proofs.Loading.{drawings, drawn_at, like_added, load_byte
 use Rattle.nova_runner.proofs.Stored.{fine}
 use Rattle.nova_meta.proofs.Sound.{catalogs_are_sound}
 
-one_span : (xs : List Interval) (y : Interval) → IsOneOf xs y → IsOneOf (spans xs) (span y)
+pub one_span : (xs : List Interval) (y : Interval) → IsOneOf xs y → IsOneOf (spans xs) (span y)
 one_span [] y is = absurd is
 one_span (x ∷ xs) y (inl e) = inl (ap span e)
 one_span (x ∷ xs) y (inr more) = inr (one_span xs y more)

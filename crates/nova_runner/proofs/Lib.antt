@@ -10,6 +10,7 @@ pub mod Loading
 pub mod Stored
 pub mod Writing
 pub mod Leading
+pub mod Timely
 pub mod Allowing
 pub mod Loads
 pub mod Readables
@@ -23,3 +24,11 @@ pub mod Shows
 pub mod Newest
 pub mod Rooms
 pub mod Ticks
+pub mod RunRules
+pub mod RunRooms
+pub mod Running
+pub mod Capturing
+pub mod Tasks
+pub mod Executing
+pub mod RunsReady
+pub mod Ran

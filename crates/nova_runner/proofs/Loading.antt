@@ -68,14 +68,14 @@ spans_placed x (y ∷ ys) n low lt =
     ∙ sym (ap (λ (b : Bool). if is_before x y then span x ∷ (span y ∷ spans ys) else (if b then span y ∷ spans ys else span y ∷ with_span (span x) (spans ys))) apart)
 
 -- a version more, in the catalog and in the state
-grown : (sh : Shelved) (k : Kept) (v : Version) (based anew : Bool) (b z : ℕ) → based ≡ false → anew ≡ false → AllByRecursion (λ (y : Interval). y.to ≤ sh.version) sh.intervals →
+pub grown : (sh : Shelved) (k : Kept) (v : Version) (based anew : Bool) (b z : ℕ) → based ≡ anew → AllByRecursion (λ (y : Interval). y.to ≤ sh.version) sh.intervals →
     drawn_shelved sh ≡ drawn_kept k → drawn_shelved (next_shelf based sh b z) ≡ drawn_kept (with_version anew k v)
-grown sh k v based anew b z free loose low same =
+grown sh k v based anew b z is low same =
     let number : sh.version ≡ length k.versions = ap (λ (d : Drawn). d.version) same in
     let shelf : spans sh.intervals ≡ k.shelf = ap (λ (d : Drawn). d.shelf) same in
     let long : length (k.versions ++ v ∷ []) ≡ length k.versions + 1 = length-append k.versions (v ∷ []) in
     let begins : (if based then 0 else sh.version) ≡ (if anew then 0 else length k.versions) =
-    ap (λ (c : Bool). if c then 0 else sh.version) free ∙ number ∙ sym (ap (λ (c : Bool). if c then 0 else length k.versions) loose) in
+    λ j. if is j then 0 else number j in
     λ i. record {
       version = (ap (λ n. n + 1) number ∙ sym long) i;
       shelf = (spans_placed (interval_of (if based then 0 else sh.version) (sh.version + 1) b z) sh.intervals sh.version low (omega arith)
@@ -91,7 +91,7 @@ like_added cat s c b z v free loose low same =
     λ i. record {
       channels = (
           map-set drawn_shelved cat.channels c (next_shelf (is_based cat.wiring c) (shelf_at cat c) b z)
-          ∙ (λ j. slice_set (all j) c (grown (shelf_at cat c) (kept_at s c) v (is_based cat.wiring c) (flow_based s.flow c) b z free loose low (drawn_at cat s all c) j))
+          ∙ (λ j. slice_set (all j) c (grown (shelf_at cat c) (kept_at s c) v (is_based cat.wiring c) (flow_based s.flow c) b z (free ∙ sym loose) low (drawn_at cat s all c) j))
           ∙ sym (map-set drawn_kept s.channels c (with_version (flow_based s.flow c) (kept_at s c) v))) i;
       tasks = ap (λ (k : Sketch). k.tasks) same i;
       moment = ap (λ (k : Sketch). k.moment) same i;

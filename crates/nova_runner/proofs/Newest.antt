@@ -1,5 +1,5 @@
 -- What a store reads of a channel is the state's.
-use Rattle.std.proofs.Common.{◌≡◌, inl, ℕ, Bool, List, length, Result, Ok, Err, refl, ap, sym, ◌∙◌, subst, arith}
+use Rattle.std.proofs.Common.{◌≡◌, ◌⊎◌, inl, inr, ℕ, Bool, List, [], ◌∷◌, length, Result, Ok, Err, refl, ap, sym, ◌∙◌, subst, arith}
 use Rattle.nova_value.specs.Rows.{Shape}
 use Rattle.nova_outside.specs.History.{Event, current}
 use Rattle.nova_delta.specs.Merge.{TableValue}
@@ -8,7 +8,10 @@ use Rattle.nova_channel.specs.Reading.{HasReadTable, ReadTold}
 use Rattle.nova_channel.proofs.Routes.{blocks_are_not_bad, tables_are_versions}
 use Rattle.nova_block.specs.declared.fault.BlockFault.{BlockFault}
 use Rattle.nova_block.specs.declared.fault.BlockFault.TheVariants as block
-use Rattle.nova_meta.specs.Catalog.{shelf_at}
+use Rattle.nova_outside.specs.Disk.{Files}
+use Rattle.nova_workflow.specs.declared.flow.Channel.{Channel}
+use Rattle.nova_execution.specs.Reads.{IsDamaged, IsReadDamage, Read}
+use Rattle.nova_meta.specs.Catalog.{Entered, shelf_at}
 use Rattle.nova_commit.specs.declared.commit.Commit.{Commit}
 use Rattle.nova_machine.specs.Workflow.{Workflow, schema_in}
 use Rattle.nova_machine.specs.Versions.{rows_in}
@@ -21,16 +24,25 @@ use Rattle.std.specs.Result.{IfOk, IfErr, IsErr}
 use Rattle.nova_runner.specs.Reading.{GivesNewest, IsNewestDamage, IsNewestRead, ReadStops, why_unread}
 use Rattle.nova_path.specs.Intervals.{AreApart}
 use Rattle.nova_channel.proofs.Whole.{tables_are_whole}
+use Rattle.nova_runner.specs.Acts.{newest_reads}
 use Rattle.nova_runner.specs.Laws.{NoStepDamage}
 use Rattle.nova_runner.specs.Steps.{AsksShow, BrokeOff, Stopped, StoreStands}
+
+-- several reads have no damage where each has none
+none_bad : (channels : List Channel) (cat : Entered) (files : Files) → ((r : Read) (file at : ℕ) → IsDamaged channels cat files r file at → ⊥) → (rs : List Read) (file at : ℕ) → IsReadDamage channels cat files rs file at → ⊥
+none_bad channels cat files each [] file at bad = bad
+none_bad channels cat files each (r ∷ rs) file at (inl bad) = each r file at bad
+none_bad channels cat files each (r ∷ rs) file at (inr more) = none_bad channels cat files each rs file at more.1
 
 -- no step tells damage where files stand for a state
 pub no_step_damage : NoStepDamage
 no_step_damage x commits cat files s (Show c) file at reached by made bad =
     blocks_are_not_bad (schema_in s.flow c) files (kept_at s c).versions (shelf_at cat c).intervals 0 (shelf_at cat c).version file at (holds x commits cat files s reached by c) bad
+no_step_damage x commits cat files s (Run t) file at reached by made bad =
+    none_bad s.flow.channels cat files (λ r f a. blocks_are_not_bad (schema_in s.flow r.channel) files (kept_at s r.channel).versions (shelf_at cat r.channel).intervals r.from r.to f a (holds x commits cat files s reached by r.channel))
+    (newest_reads cat t) file at bad
 no_step_damage x commits cat files s (Load c entries) file at reached by made bad = bad
 no_step_damage x commits cat files s (Tick m) file at reached by made bad = bad
-no_step_damage x commits cat files s (Run t) file at reached by made bad = bad
 no_step_damage x commits cat files s (Begin t) file at reached by made bad = bad
 no_step_damage x commits cat files s (Finish t) file at reached by made bad = bad
 no_step_damage x commits cat files s (Drop t) file at reached by made bad = bad

@@ -18,6 +18,7 @@ use Rattle.nova_machine.specs.Workflow.{Workflow}
 use Rattle.nova_runner.specs.Held.{Held}
 use Rattle.nova_runner.specs.Workflow.{wiring_of}
 use Rattle.nova_runner.specs.Readable.{IsKept, IsReadable}
+use Rattle.nova_runner.proofs.Timely.{timely}
 
 all_one : (P : Interval → Type 0) (xs : List Interval) → ((x : Interval) → IsOneOf xs x → P x) → AllByRecursion P xs
 all_one P [] each = tt
@@ -34,6 +35,9 @@ readable w commits cat wired is =
       next = sound.bounded.next;
       shelved = sound.shelved;
       many = sound.entered.channels;
+      timely = timely w commits cat is;
+      versions = sound.bounded.versions;
+      runs = sound.bounded.runs;
     }
 
 pub wired : (w : Wiring) (commits : List Commit) (cat : Entered) → IsWiring w → catalog_of w commits ≡ Some cat → cat.wiring ≡ w

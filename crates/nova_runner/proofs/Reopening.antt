@@ -148,4 +148,4 @@ bad_store files x end file payloads (not_read.At at) number mark read (inr refus
   file_is = number;
   place = inr (payloads, end, subst (λ n. IsReadTo end payloads (files n)) (sym number) read, refused);
 }
-bad_store files x end file payloads not_read.Memory number mark read told = (x, mark)
+bad_store files x end file payloads not_read.NoMemory number mark read told = (x, mark)

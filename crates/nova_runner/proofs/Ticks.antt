@@ -62,19 +62,22 @@ like_ticked cat s m same = λ i. record {
   moment = m;
 }
 
-pub tick_readable : (cat : Entered) (m : ℕ) → IsReadable cat → IsReadable (applied cat (commit.Tick m))
-tick_readable cat m is = record {
+pub tick_readable : (cat : Entered) (m : ℕ) → cat.moment ≤ m → IsReadable cat → IsReadable (applied cat (commit.Tick m))
+tick_readable cat m later is = record {
   below = λ p named. is.below p (named_same cat m p.content p.block p.size named);
   numbered = is.numbered;
   whole = is.whole;
   next = is.next;
   many = is.many;
   shelved = is.shelved;
+  timely = λ t. let before = is.timely t in omega (arith, before, later);
+  versions = is.versions;
+  runs = is.runs;
 }
 
-pub tick_kept : (store : Held) (m : ℕ) (journal : Extent) (cat : Entered) → IsKept store → cat ≡ applied store.catalog (commit.Tick m) → IsKept (record { journal = journal; flow = store.flow; catalog = cat; flight = store.flight })
-tick_kept store m journal cat kept is = subst (λ (k : Entered). IsKept (record { journal = journal; flow = store.flow; catalog = k; flight = store.flight })) (sym is)
-    (record { read = kept.read; wired = kept.wired; begun = kept.begun; readable = tick_readable store.catalog m kept.readable; tasks = kept.tasks; flights = kept.flights })
+pub tick_kept : (store : Held) (m : ℕ) (journal : Extent) (cat : Entered) → IsKept store → store.catalog.moment ≤ m → cat ≡ applied store.catalog (commit.Tick m) → IsKept (record { journal = journal; flow = store.flow; catalog = cat; flight = store.flight })
+tick_kept store m journal cat kept later is = subst (λ (k : Entered). IsKept (record { journal = journal; flow = store.flow; catalog = k; flight = store.flight })) (sym is)
+    (record { read = kept.read; wired = kept.wired; begun = kept.begun; readable = tick_readable store.catalog m later kept.readable; tasks = kept.tasks; flights = kept.flights })
 
 -- a tick brings no blocks
 pub none_spare : (cat : Entered) (m : ℕ) → AreSpare cat (commit.Tick m) []

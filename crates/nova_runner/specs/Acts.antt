@@ -10,20 +10,33 @@ use Rattle.nova_channel.specs.Reading.{IsDamage, route_size}
 use Rattle.nova_commit.specs.Commits.{commit_bytes}
 use Rattle.nova_meta.specs.Catalog.{Entered, applied, bound, progress_at, shelf_at, total}
 use Rattle.nova_meta.specs.Named.{Channel}
+use Rattle.nova_meta.specs.declared.wiring.Edge.{Edge}
 use Rattle.nova_meta.specs.Wired.{wire_at}
 use Rattle.nova_commit.specs.declared.commit.PartFile.{PartFile}
 use Rattle.nova_commit.specs.declared.commit.Commit.{Commit}
 use Rattle.nova_commit.specs.declared.commit.Commit.TheVariants as commit
 use Rattle.nova_machine.specs.Workflow.{Workflow, schema_in}
-use Rattle.nova_machine.specs.State.{State, newest}
+use Rattle.nova_machine.specs.State.{State, Capture, newest}
+use Rattle.nova_machine.specs.Due.{capture_of}
 use Rattle.nova_machine.specs.Steps.{Step, Load, Tick, Run, Begin, Finish, Drop, Worked, Compact, Chain, Collect, Show, Blocks, Refused, after}
+use Rattle.nova_execution.specs.Made.{run_block}
+use Rattle.nova_execution.specs.Reads.{IsReadDamage, Read, reads_size, run_reads}
 use Rattle.nova_runner.specs.Files.{bytes_of, journal_file}
+
+-- the commit of a run that captured this, whose block is of this size
+abbrev pub own_run : Entered → ℕ → Capture → ℕ → Commit
+own_run cat t run size = commit.Run t run.versions run.moment run.seen cat.next size []
+
+-- what a run of a task reads that captures what is newest
+abbrev pub newest_reads : Entered → ℕ → List Read
+newest_reads cat t = run_reads (wire_at cat.wiring t).inputs cat t (map (λ (e : Edge). (shelf_at cat e.channel).version) (wire_at cat.wiring t).inputs)
 
 -- the commit that a step adds from a state with this catalog, or none where it adds none
 abbrev pub own_commit : Entered → State → Step → Option Commit
 own_commit cat s (Load c entries) =
     Some (commit.Load c cat.next (length (bytes_of (after s (Load c entries)) (Channel c (newest s c) (newest s c + 1)))))
 own_commit cat s (Tick m) = Some (commit.Tick m)
+own_commit cat s (Run t) = Some (own_run cat t (capture_of s t) (length (spelling_of (run_block s t (capture_of s t)))))
 own_commit cat s (Begin t) = None
 own_commit cat s (Drop t) = None
 own_commit cat s (Worked k) = None
@@ -31,7 +44,6 @@ own_commit cat s (Show c) = None
 own_commit cat s (Blocks c) = None
 own_commit cat s (Refused refusal) = None
 -- their lines come with their commands
-own_commit cat s (Run t) = None
 own_commit cat s (Finish t) = None
 own_commit cat s (Compact c) = None
 own_commit cat s (Chain c i j) = None
@@ -44,12 +56,12 @@ load_block cat c d = record { schema = d.schema; entries = if (shelf_at cat c).v
 abbrev pub load_commit : Entered → ℕ → DeltaValue → Commit
 load_commit cat c d = commit.Load c cat.next (length (spelling_of (load_block cat c d)))
 
--- how many bytes of blocks it reads at most: until runs are built only a `show` reads any
+-- how many bytes of blocks it reads at most
 abbrev pub read_size : Entered → Step → ℕ
 read_size cat (Show c) = route_size (shelf_at cat c).intervals 0 (shelf_at cat c).version
+read_size cat (Run t) = reads_size cat (newest_reads cat t)
 read_size cat (Load c entries) = 0
 read_size cat (Tick m) = 0
-read_size cat (Run t) = 0
 read_size cat (Begin t) = 0
 read_size cat (Finish t) = 0
 read_size cat (Drop t) = 0
@@ -63,9 +75,9 @@ read_size cat (Refused refusal) = 0
 -- the file and the place that it finds damaged: those of the first block that it reads which is none
 abbrev pub IsStepDamage : Workflow → Entered → Files → Step → ℕ → ℕ → Type 0
 IsStepDamage flow cat files (Show c) file at = IsDamage (schema_in flow c) files (shelf_at cat c).intervals 0 (shelf_at cat c).version file at
+IsStepDamage flow cat files (Run t) file at = IsReadDamage flow.channels cat files (newest_reads cat t) file at
 IsStepDamage flow cat files (Load c entries) file at = ⊥
 IsStepDamage flow cat files (Tick m) file at = ⊥
-IsStepDamage flow cat files (Run t) file at = ⊥
 IsStepDamage flow cat files (Begin t) file at = ⊥
 IsStepDamage flow cat files (Finish t) file at = ⊥
 IsStepDamage flow cat files (Drop t) file at = ⊥

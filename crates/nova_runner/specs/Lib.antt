@@ -15,3 +15,5 @@ pub mod Making
 pub mod Reading
 pub mod Laws
 pub mod LoadLaws
+pub mod Runs
+pub mod RunLaws

@@ -168,7 +168,7 @@ pub record IsStuck (w : Wiring) (at : ℕ) (payloads : List (List ℕ)) : Type 0
 
 abbrev pub IsStuckTold : Wiring → List (List ℕ) → NotRead → Type 0
 IsStuckTold w payloads (not_read.At at) = IsStuck w at payloads
-IsStuckTold w payloads not_read.Memory = Unit {0}
+IsStuckTold w payloads not_read.NoMemory = Unit {0}
 
 -- these payloads are commits in order
 pub record HasCommits (payloads : List (List ℕ)) (flow : Workflow) (cat : Entered) : Type 0 where
@@ -183,7 +183,7 @@ pub record HasCommits (payloads : List (List ℕ)) (flow : Workflow) (cat : Ente
 
 abbrev pub NotReadTold : NotRead → List (List ℕ) → Type 0
 NotReadTold (not_read.At at) payloads = (payloads ≡ []) ⊎ IsFirstRefused at payloads
-NotReadTold not_read.Memory payloads = Unit {0}
+NotReadTold not_read.NoMemory payloads = Unit {0}
 
 abbrev pub Opens : Bool → Held → List Event → List Event → Type 0
 Opens is_honest store a b = IsTrue is_honest → Opened store a b
@@ -197,4 +197,4 @@ unopened_by log.NoMemory = open_fault.NoMemory
 
 abbrev pub unread_in : ℕ → NotRead → OpenFault
 unread_in file (not_read.At at) = open_fault.Damaged file at
-unread_in file not_read.Memory = open_fault.NoMemory
+unread_in file not_read.NoMemory = open_fault.NoMemory

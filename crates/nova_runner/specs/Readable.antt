@@ -7,10 +7,14 @@ use Rattle.nova_runner.specs.Workflow.{wiring_of}
 use Rattle.nova_path.specs.Shelf.{HasPath}
 use Rattle.nova_path.specs.Intervals.{spans}
 use Rattle.nova_channel.specs.Reading.{AreNumbered}
-use Rattle.nova_meta.specs.Catalog.{Entered, shelf_at}
+use Rattle.nova_meta.specs.Catalog.{Entered, last_moment, progress_at, shelf_at}
 use Rattle.nova_meta.specs.Shelves.{IsShelved}
 
--- its channels are those of its workflow, named blocks are below the next number and have files, each channel has a path from 0 to its version, and its intervals are in order
+-- no run began later than the clock
+abbrev pub IsTimely : Entered → Type 0
+IsTimely cat = (t : ℕ) → last_moment (progress_at cat t).last ≤ cat.moment
+
+-- its channels are those of its workflow, named blocks are below the next number and have files, each channel has a path from 0 to its version, its intervals are in order, no run began later than the clock, and no counter is above 2^62
 pub record IsReadable (cat : Entered) : Type 0 where
   pub below : (p : Piece) → IsNamed cat p → p.block < cat.next
   pub numbered : (c : ℕ) → AreNumbered (shelf_at cat c).intervals
@@ -18,6 +22,9 @@ pub record IsReadable (cat : Entered) : Type 0 where
   pub next : cat.next ≤ 2 ^ 62
   pub many : length cat.channels ≡ length cat.wiring.writers
   pub shelved : (c : ℕ) → IsShelved (shelf_at cat c)
+  pub timely : IsTimely cat
+  pub versions : (c : ℕ) → (shelf_at cat c).version ≤ 2 ^ 62
+  pub runs : (t : ℕ) → (progress_at cat t).runs ≤ 2 ^ 62
 
 -- A store's catalog is that of its workflow, and readable; it has what is kept of each task, and a slot for each.
 pub record IsKept (held : Held) : Type 0 where

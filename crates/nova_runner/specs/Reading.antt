@@ -17,7 +17,7 @@ use Rattle.nova_machine.specs.State.{State, newest_table}
 use Rattle.nova_machine.specs.Steps.{Step}
 use Rattle.nova_commit.specs.declared.commit.Commit.{Commit}
 use Rattle.nova_runner.specs.Held.{Held}
-use Rattle.nova_runner.specs.Steps.{StoreStands, Stops, Why, Disk, Reply, Damaged, Memory}
+use Rattle.nova_runner.specs.Steps.{StoreStands, Stops, Why, Disk, Reply, Damaged, NoMemory}
 use Rattle.nova_runner.specs.declared.show.Unshown.{Unshown}
 use Rattle.nova_runner.specs.declared.show.Unshown.TheVariants as unshown
 
@@ -37,13 +37,13 @@ IsNewestRead store c files t =
 abbrev pub why_unread : BlockFault → Why
 why_unread block.Disk = Disk
 why_unread (block.Damaged file at) = Damaged file at
-why_unread block.NoMemory = Memory
+why_unread block.NoMemory = NoMemory
 
 abbrev pub why_unshown : Unshown → Why
 why_unshown unshown.Disk = Disk
 why_unshown (unshown.Damaged file at) = Damaged file at
 why_unshown unshown.Reply = Reply
-why_unshown unshown.NoMemory = Memory
+why_unshown unshown.NoMemory = NoMemory
 
 -- a call that failed is told only where its count rose
 abbrev pub ShowCause : ℕ → ℕ → ℕ → ℕ → Unshown → Type 0

@@ -14,7 +14,7 @@ use Rattle.nova_meta.specs.Catalog.{Entered, applied}
 use Rattle.nova_commit.specs.declared.commit.Commit.{Commit}
 use Rattle.nova_machine.specs.Workflow.{Workflow, schema_in}
 use Rattle.nova_machine.specs.State.{State, ended}
-use Rattle.nova_machine.specs.Steps.{Step, Load, Show, Tick, after, load_delta}
+use Rattle.nova_machine.specs.Steps.{Step, Load, Run, Show, Tick, after, load_delta}
 use Rattle.nova_machine.specs.Reachable.{IsMade, IsReachable}
 use Rattle.nova_machine.specs.Replies.{reply_to}
 use Rattle.nova_runner.specs.Acts.{IsFull, IsStepDamage, LeavesOthers, behind, catalog_behind, own_commit}
@@ -77,7 +77,7 @@ pub data Why : Type 0 where
   Reply : Why
   Damaged : (file at : ℕ) → Why
   Full : (end : ℕ) → Why
-  Memory : Why
+  NoMemory : Why
 
 -- The journal has the commits from before, and the files stand by them for s; or it has the step's own too, and they stand by all for t.
 abbrev pub IsLeft : ℕ → List Commit → Entered → Option Commit → Files → Files → State → State → Type 0
@@ -114,7 +114,7 @@ Stopped Disk store commits s x a b = BrokeOff store commits s x a b
 Stopped Reply store commits s x a b = HeldBack store commits s x a b
 Stopped (Damaged file at) store commits s x a b = (b ≡ a) × IsStepDamage s.flow store.catalog (current a) x file at
 Stopped (Full end) store commits s x a b = (b ≡ a) × NoRoom store s x end
-Stopped Memory store commits s x a b = b ≡ a
+Stopped NoMemory store commits s x a b = b ≡ a
 
 -- ---- as clauses: from each state that the store stood for, and each step of it that was asked for
 
@@ -133,6 +133,9 @@ AsksLoad c delta s x = (entries : List Entry) × (x ≡ Load c entries) × (delt
 abbrev pub AsksTick : ℕ → State → Step → Type 0
 AsksTick m s x = (x ≡ Tick m) × IsMade s x
 
+abbrev pub AsksRun : ℕ → State → Step → Type 0
+AsksRun t s x = (x ≡ Run t) × IsMade s x
+
 abbrev pub AsksShow : ℕ → State → Step → Type 0
 AsksShow c s x = (x ≡ Show c) × IsMade s x
 
@@ -146,7 +149,7 @@ abbrev pub why_of : StoppedCall → Why
 why_of stopped.Disk = Disk
 why_of (stopped.Damaged file at) = Damaged file at
 why_of (stopped.Full end) = Full end
-why_of (stopped.NoMemory store) = Memory
+why_of (stopped.NoMemory store) = NoMemory
 
 -- it was a failed call only where the disk's count rose, and for want of memory the store is handed back as it was
 abbrev pub StopCause : Held → ℕ → ℕ → StoppedCall → Type 0
@@ -164,6 +167,11 @@ abbrev pub IsStopEarly : StoppedCall → Type 0
 IsStopEarly (stopped.Full end) = Unit {0}
 IsStopEarly (stopped.NoMemory store) = Unit {0}
 IsStopEarly _ = ⊥
+
+-- it stopped otherwise than by a failed call on a file
+abbrev pub IsNoFailedCall : StoppedCall → Type 0
+IsNoFailedCall stopped.Disk = ⊥
+IsNoFailedCall _ = Unit {0}
 
 -- damage was told
 abbrev pub IsStopDamage : StoppedCall → Type 0

@@ -1,6 +1,6 @@
 //! What commands are refused by, as a store has it.
 ghost use Rattle.std.specs.Prelude.{◌≡◌, ◌<◌, length};
-ghost use Rattle.nova_machine.specs.Workflow.{channel_in, schema_in};
+ghost use Rattle.nova_machine.specs.Workflow.{channel_in, schema_in, task_in};
 ghost use Rattle.nova_runner.specs.Around.{around_held};
 
 use crate::store::Store;
@@ -52,6 +52,14 @@ impl Store {
         ensures { result.now ≡ (channel_in self.now.flow channel).name }
     {
         self.flow.name(channel)
+    }
+
+    /// The name of a task.
+    pub fn task_name(&self, task: u32) -> &Name
+        requires { task < length self.now.flow.tasks }
+        ensures { result.now ≡ (task_in self.now.flow task).name }
+    {
+        self.flow.task_name(task)
     }
 
     /// The schema of a channel.

@@ -1,6 +1,7 @@
 //! What holds of files and stores, whatever commands there are.
 ghost use Rattle.nova_runner.specs.Laws.{CommitsLead, DecidingFilesDecide, IsBlockOrLost, LoadsLead, NoLossIsKept, NoStepDamage, SettledImagesStand, StoredIsNotLost, TicksLead};
 ghost use Rattle.nova_runner.specs.LoadLaws.{LoadsBring, LoadsDraw};
+ghost use Rattle.nova_runner.specs.RunLaws.{RunsLead};
 
 /// Only the files that decide count for what files stand for, so each image of a host on whose deciding
 /// files nothing is pending stands for what its reading stands for.
@@ -24,6 +25,11 @@ pub fn loads_commit()
 /// A tick's catalog draws the state behind it, and no block comes with it.
 pub fn ticks_commit()
     ensures { TicksLead }
+{}
+
+/// A run's catalog draws the state behind it, and its block is that of the new version.
+pub fn runs_commit()
+    ensures { RunsLead }
 {}
 
 /// Where files stand for a state that commands reach, no step tells damage.

@@ -42,14 +42,14 @@ pub enum OpenFault {
 pub enum NotRead {
     /// The payload at this place may not come there.
     At(u64),
-    Memory,
+    NoMemory,
 }
 
 impl From<AllocError> for NotRead {
-    ghost from_gives = { λ _ e. e ≡ not_read.Memory };
+    ghost from_gives = { λ _ e. e ≡ not_read.NoMemory };
 
     fn from(_: AllocError) -> Self {
-        NotRead::Memory
+        NotRead::NoMemory
     }
 }
 
@@ -69,7 +69,7 @@ fn unread(file: u64, why: NotRead) -> OpenFault
 {
     match why {
         NotRead::At(at) => OpenFault::Damaged { file, at },
-        NotRead::Memory => OpenFault::NoMemory,
+        NotRead::NoMemory => OpenFault::NoMemory,
     }
 }
 

@@ -1,5 +1,9 @@
 //! A store in memory.
+ghost use Rattle.std.specs.Prelude.{◌≡◌};
+ghost use Rattle.nova_runner.specs.Texts.{workflow_of};
+
 use crate::workflow::Workflow;
+use nova_admit::Admitted;
 use nova_journal::Journal;
 use nova_meta::Catalog;
 use nova_trigger::InFlight;
@@ -29,4 +33,20 @@ impl Model for Store {
     ghost view = { λ s. record { journal = s.journal; flow = s.flow; catalog = s.catalog; flight = s.flight } };
 
     ghost invariant = { λ s. IsKept (record { journal = s.journal; flow = s.flow; catalog = s.catalog; flight = s.flight }) };
+}
+
+impl Store {
+    /// Its workflow, with the patterns of its tasks.
+    pub fn admitted(&self) -> &Admitted
+        ensures { workflow_of self.now.flow.text result.now.flow result.now.patterns ≡ self.now.flow }
+    {
+        self.flow.admitted()
+    }
+
+    /// Its catalog.
+    pub fn catalog(&self) -> &Catalog
+        ensures { result.now ≡ self.now.catalog }
+    {
+        &self.catalog
+    }
 }

@@ -6,7 +6,7 @@ ghost use Rattle.nova_workflow.specs.declared.flow.Task.{Task as SeenTask};
 ghost use Rattle.nova_pig_algebra.specs.Plan.{IsPlan};
 ghost use Rattle.nova_admit.specs.Flows.{HavePatterns};
 ghost use Rattle.nova_admit.specs.TaskPlans.{plan_of};
-ghost use Rattle.nova_machine.specs.Workflow.{channel_in, schema_in};
+ghost use Rattle.nova_machine.specs.Workflow.{channel_in, output_in, schema_in, task_in};
 ghost use Rattle.nova_runner.specs.Flights.{flow_of};
 ghost use Rattle.nova_runner.specs.Texts.{Admits, ArePlans, HasFlow, Says, workflow_of};
 ghost use Rattle.nova_runner.specs.Workflow.{FlowsAreAdmitted};
@@ -194,6 +194,26 @@ impl Workflow {
         task_with(self.admitted.flow().tasks.as_slice(), name)
     }
 
+    /// The channel that a task writes.
+    pub(crate) fn output(&self, task: u32) -> u32
+        requires { task < length self.now.tasks }
+        ensures { result ≡ output_in self.now task }
+    {
+        let tasks = self.admitted.flow().tasks.as_slice();
+        let task = &tasks[task as usize];
+        task.output
+    }
+
+    /// How many inputs a task has.
+    pub(crate) fn input_count(&self, task: u32) -> usize
+        requires { task < length self.now.tasks }
+        ensures { result ≡ length (task_in self.now task).inputs }
+    {
+        let tasks = self.admitted.flow().tasks.as_slice();
+        let task = &tasks[task as usize];
+        task.inputs.len()
+    }
+
     /// Whether a task writes a channel.
     pub fn has_writer(&self, channel: u32) -> bool
         requires { channel < length self.now.channels }
@@ -212,6 +232,16 @@ impl Workflow {
         let channels = self.admitted.flow().channels.as_slice();
         let channel = &channels[channel as usize];
         &channel.name
+    }
+
+    /// The name of a task.
+    pub fn task_name(&self, task: u32) -> &Name
+        requires { task < length self.now.tasks }
+        ensures { result.now ≡ (task_in self.now task).name }
+    {
+        let tasks = self.admitted.flow().tasks.as_slice();
+        let task = &tasks[task as usize];
+        &task.name
     }
 
     /// The schema of a channel.

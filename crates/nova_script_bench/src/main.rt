@@ -2,8 +2,8 @@
 //! or the fault. The input `raw` has the columns id, url and ms, and so has the output `out`.
 #![tactic(auto)]
 
+use nova_admit::{ScriptFault, plan_of_text};
 use nova_pig_plan::{Channels, Plan};
-use nova_pig_script::{ScriptFault, plan_of_text};
 use nova_value::{Column, Kind, Name, Schema};
 use sqlite_items::Items;
 use std::alloc::{AllocError, Global};

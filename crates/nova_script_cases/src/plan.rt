@@ -1,8 +1,8 @@
 //! A plan as text, a line a node: a column as `#k`, a BY value as `@k`, each operation in parentheses.
 use crate::text::{Done, add, add_line, add_number, add_place, sign};
+use nova_admit::{ScriptFault, plan_of_text};
 use nova_pig_algebra::{Node, PlanExpr};
 use nova_pig_plan::{Channels, Plan};
-use nova_pig_script::{ScriptFault, plan_of_text};
 use nova_pig_tree::{CallKind, Str};
 use std::alloc::{AllocError, Global};
 
@@ -31,11 +31,11 @@ fn add_expr(alloc: Global, out: &mut Vec<u8>, expr: &PlanExpr) -> Done {
     match expr {
         PlanExpr::Num(n) => add_number(alloc, out, *n),
         PlanExpr::Lit(text) => add_literal(out, text),
-        PlanExpr::Col(k) => {
+        PlanExpr::Column(k) => {
             add(out, "#")?;
             add_place(alloc, out, u64::from(*k))
         }
-        PlanExpr::GroupCol(k) => {
+        PlanExpr::GroupColumn(k) => {
             add(out, "@")?;
             add_place(alloc, out, u64::from(*k))
         }

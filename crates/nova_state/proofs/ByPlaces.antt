@@ -38,10 +38,10 @@ unfolding given
 by_gives j x e by f = go (out-PlanExpr x) (sym (roll-out-PlanExpr x)) e
   where
     go : (y : PlanExpr-F PlanExpr) → x ≡ roll-PlanExpr y → plain_step y ≡ By j → value_of x by f ≡ value_at by j
-    go (PlanExpr-F.GroupCol k) is e =
+    go (PlanExpr-F.GroupColumn k) is e =
         let same : k ≡ j = cc in
-        ap (λ z. value_of z by f) is ∙ ap (λ (g : Given). g.value by f) (fold-roll-PlanExpr Given given_step (PlanExpr-F.GroupCol k)) ∙ ap (value_at by) same
-    go (PlanExpr-F.Col k) is e = absurd cc
+        ap (λ z. value_of z by f) is ∙ ap (λ (g : Given). g.value by f) (fold-roll-PlanExpr Given given_step (PlanExpr-F.GroupColumn k)) ∙ ap (value_at by) same
+    go (PlanExpr-F.Column k) is e = absurd cc
     go (PlanExpr-F.Num n) is e = absurd cc
     go (PlanExpr-F.Lit t) is e = absurd cc
     go y is e = absurd cc

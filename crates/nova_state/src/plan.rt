@@ -208,8 +208,8 @@ fn add_calls(expr: &PlanExpr, all: &mut Vec<Call>) -> Result<(), AllocError>
         }
         PlanExpr::Num(_) => {}
         PlanExpr::Lit(_) => {}
-        PlanExpr::Col(_) => {}
-        PlanExpr::GroupCol(_) => {}
+        PlanExpr::Column(_) => {}
+        PlanExpr::GroupColumn(_) => {}
     }
     Ok(())
 }
@@ -440,8 +440,8 @@ fn place_in(expr: &PlanExpr) -> u32
     ensures { result ≡ spec.place_in (plain expr.now) }
 {
     match expr {
-        PlanExpr::Col(place) => *place,
-        PlanExpr::GroupCol(place) => *place,
+        PlanExpr::Column(place) => *place,
+        PlanExpr::GroupColumn(place) => *place,
         _ => 0,
     }
 }

@@ -1,9 +1,8 @@
 //! A grouping task with its state.
 use crate::lines::{delta, shown};
-use nova_admit::{GroupPlan, Pattern, admit_task};
+use nova_admit::{GroupPlan, Pattern, admit_task, plan_of_text};
 use nova_pig_pattern::Input;
 use nova_pig_plan::Channels;
-use nova_pig_script::plan_of_text;
 use nova_state::{State, advance};
 use nova_value::{Column, Kind, Name, Schema};
 use sqlite_items::Items;

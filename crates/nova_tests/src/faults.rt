@@ -1,30 +1,44 @@
 //! A source or a host that fails in the middle of a call.
 use crate::run::{
-    ONE_CHANNEL, READY, call, init, replied, replies_behind, run, source_of, with_store,
+    READY, WORKFLOW, call, init, replied, replies_behind, run, source_of, with_store,
 };
 use nova_mem::MemHost;
 use std::alloc::{AllocError, Global};
 use std::test::Fail;
 
-const SESSION: &str = "load raw\n+1\t/a\t1\n.\nshow raw\nload raw\n+2\t/b\t2\n.\nshow raw\n";
+const SESSION: &str =
+    "load raw\n+1\t/a\t1\n.\nrun all\nshow tally\nload raw\n+2\t/a\t2\n.\nrun all\n";
 
-/// The replies to the commands that are whole in the first piece.
-const FIRST: &str = "loaded raw 1\n+1\t/a\t1\nshown raw 1 1\n";
+/// The replies to the first command, to the first two, and to those that are whole in the first
+/// piece.
+const LOADED: &str = "loaded raw 1\n";
 
-const ALL: &str =
-    "loaded raw 1\n+1\t/a\t1\nshown raw 1 1\nloaded raw 2\n+1\t/a\t1\n+2\t/b\t2\nshown raw 2 2\n";
+const RAN: &str = "loaded raw 1\nran all 1\n";
 
-/// What a later call shows of no load, of one, and of both.
-const NONE: &str = "shown raw 0 0\n";
+const FIRST: &str = "loaded raw 1\nran all 1\n+/a\t1\nshown tally 1 1\n";
 
-const ONE: &str = "+1\t/a\t1\nshown raw 1 1\n";
+const LOADED_AGAIN: &str = "loaded raw 1\nran all 1\n+/a\t1\nshown tally 1 1\nloaded raw 2\n";
 
-const BOTH: &str = "+1\t/a\t1\n+2\t/b\t2\nshown raw 2 2\n";
+const ALL: &str = "loaded raw 1\nran all 1\n+/a\t1\nshown tally 1 1\nloaded raw 2\nran all 2\n";
+
+/// What a later call is asked, and what it shows behind no command, one load, its run, and both of
+/// each.
+const LATER: &str = "show raw\nshow tally\n";
+
+const NOTHING: &str = "shown raw 0 0\nshown tally 0 0\n";
+
+const ONE_LOAD: &str = "+1\t/a\t1\nshown raw 1 1\nshown tally 0 0\n";
+
+const ONE_RUN: &str = "+1\t/a\t1\nshown raw 1 1\n+/a\t1\nshown tally 1 1\n";
+
+const TWO_LOADS: &str = "+1\t/a\t1\n+2\t/a\t2\nshown raw 2 2\n+/a\t1\nshown tally 1 1\n";
+
+const TWO_RUNS: &str = "+1\t/a\t1\n+2\t/a\t2\nshown raw 2 2\n+/a\t2\nshown tally 2 1\n";
 
 #[test]
 fn failed_read_ends_behind_whole_commands(rt: HostRuntime) -> Result<(), Fail> {
     // the first piece ends inside the second load
-    let mut source = source_of(rt.alloc(), SESSION.as_bytes(), 40)?;
+    let mut source = source_of(rt.alloc(), SESSION.as_bytes(), 50)?;
     source.fail_at(1)?;
     let mut host = with_store(rt.alloc())?;
     assert_eq!(rt;
@@ -39,7 +53,7 @@ fn failed_read_ends_behind_whole_commands(rt: HostRuntime) -> Result<(), Fail> {
 #[test]
 fn failed_read_of_a_workflow_makes_no_store(rt: HostRuntime) -> Result<(), Fail> {
     // the first piece ends inside the columns
-    let mut source = source_of(rt.alloc(), ONE_CHANNEL.as_bytes(), 40)?;
+    let mut source = source_of(rt.alloc(), WORKFLOW.as_bytes(), 40)?;
     source.fail_at(1)?;
     let mut host = MemHost::new(rt.alloc());
     assert_eq!(rt;
@@ -57,14 +71,18 @@ fn failed_read_of_a_workflow_makes_no_store(rt: HostRuntime) -> Result<(), Fail>
     Ok(())
 }
 
-/// What a later call may show behind these reply lines: the loads that they tell, or one more.
+/// What a later call may show behind these reply lines: the commands that they tell, or one more.
 fn may_show(lines: &[u8]) -> [&'static str; 2] {
-    if lines.len() > FIRST.len() {
-        [BOTH, BOTH]
-    } else if lines.is_empty() {
-        [NONE, ONE]
+    if lines.len() < LOADED.len() {
+        [NOTHING, ONE_LOAD]
+    } else if lines.len() < RAN.len() {
+        [ONE_LOAD, ONE_RUN]
+    } else if lines.len() < FIRST.len() {
+        [ONE_RUN, ONE_RUN]
+    } else if lines.len() < LOADED_AGAIN.len() {
+        [ONE_RUN, TWO_LOADS]
     } else {
-        [ONE, BOTH]
+        [TWO_LOADS, TWO_RUNS]
     }
 }
 
@@ -92,7 +110,7 @@ fn each_failed_call_leaves_a_front_of_the_session(rt: HostRuntime) -> Result<(),
     let mut of_replies = 0_u64;
     let mut of_files = 0_u64;
     let mut is_done = false;
-    for calls in 0..64 {
+    for calls in 0..96 {
         let Outcome {
             status,
             lines,
@@ -119,7 +137,7 @@ fn each_failed_call_leaves_a_front_of_the_session(rt: HostRuntime) -> Result<(),
             break;
         }
         let length = host.replies().len();
-        let later = run(rt.alloc(), &mut host, "show raw\n")?;
+        let later = run(rt.alloc(), &mut host, LATER)?;
         assert_eq!(rt; later, 0, "a later call where call {calls} fails");
         let shown = replies_behind(&host, length);
         let [told, next] = may_show(&lines);
@@ -130,7 +148,7 @@ fn each_failed_call_leaves_a_front_of_the_session(rt: HostRuntime) -> Result<(),
     }
     assert!(rt; is_done, "in the end no call fails");
     assert!(rt; of_files > 8, "calls on files fail");
-    assert_eq!(rt; of_replies, 4, "each of the four replies fails once");
+    assert_eq!(rt; of_replies, 5, "each of the five replies fails once");
     Ok(())
 }
 
@@ -155,8 +173,8 @@ fn each_failed_call_of_init_leaves_no_store_or_a_new_one(rt: HostRuntime) -> Res
         }
         let is_marked = host.file(1).is_some();
         let length = host.replies().len();
-        let later = run(rt.alloc(), &mut host, "show raw\n")?;
-        let (status, shown) = if is_marked { (0, NONE) } else { (6, "") };
+        let later = run(rt.alloc(), &mut host, LATER)?;
+        let (status, shown) = if is_marked { (0, NOTHING) } else { (6, "") };
         assert_eq!(rt; later, status, "a later call where call {calls} fails");
         assert_eq!(rt;
             replies_behind(&host, length),

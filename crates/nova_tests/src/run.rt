@@ -3,12 +3,12 @@ use nova_engine::nova;
 use nova_mem::{MemHost, MemSource, MemSteady};
 use std::alloc::{AllocError, Global};
 
-/// The workflow of the one channel `raw`.
-pub const ONE_CHANNEL: &str =
-    "[[channel]]\nname = \"raw\"\ncolumns = [\"id long\", \"url chararray\", \"ms long\"]\nkey = [\"id\"]\n";
+/// The workflow of the channel `raw`, and of `tally`, which the task `all` computes of it.
+pub const WORKFLOW: &str =
+    "[[channel]]\nname = \"raw\"\ncolumns = [\"id long\", \"url chararray\", \"ms long\"]\nkey = [\"id\"]\n[[channel]]\nname = \"tally\"\ncolumns = [\"url chararray\", \"n long\"]\nkey = [\"url\"]\n[[task]]\nname = \"all\"\nscript = \"r = LOAD 'raw'; g = GROUP r BY url; c = FOREACH g GENERATE group, COUNT(r); STORE c INTO 'tally';\"\ninputs = [\"raw ALL\"]\noutput = \"tally BASE\"\n";
 
 /// The reply to `init`, which the host of a test holds before others.
-pub const READY: &str = "ready 1 0\n";
+pub const READY: &str = "ready 2 1\n";
 
 // The words of a command line.
 fn words_of(alloc: Global, words: &[&str]) -> Result<Vec<String>, AllocError> {
@@ -43,14 +43,14 @@ pub fn run(alloc: Global, host: &mut MemHost, session: &str) -> Result<u8, Alloc
     Ok(nova(alloc, &words, &mut source, host))
 }
 
-/// `init` on the workflow of one channel, over a source that never fails, and its status.
+/// `init` on the workflow, over a source that never fails, and its status.
 pub fn init(alloc: Global, host: &mut MemHost) -> Result<u8, AllocError> {
     let words = words_of(alloc, &["init"])?;
-    let mut source = MemSteady::new(ONE_CHANNEL.as_bytes().to_vec(alloc)?);
+    let mut source = MemSteady::new(WORKFLOW.as_bytes().to_vec(alloc)?);
     Ok(nova(alloc, &words, &mut source, host))
 }
 
-/// A host with a store without loads. Its replies are those to `init`.
+/// A host with a store without versions. Its replies are those to `init`.
 pub fn with_store(alloc: Global) -> Result<MemHost, AllocError> {
     let mut host = MemHost::new(alloc);
     init(alloc, &mut host)?;

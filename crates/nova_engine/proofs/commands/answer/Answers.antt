@@ -1,11 +1,25 @@
 use Rattle.std.proofs.Common.{◌≡◌, ◌∙◌, Ok, ap, subst}
-use Rattle.nova_script.specs.declared.context.Request.TheVariants.{Show}
+use Rattle.nova_script.specs.declared.context.Request.TheVariants.{Run, Show, Tick}
 use Rattle.nova_runner.specs.Around.{around_held}
 use Rattle.nova_engine.specs.Loading.{IsMet}
 use Rattle.nova_engine.specs.Seen.{seen}
 use Rattle.nova_engine.specs.Taking.{AsksMet}
-use Rattle.nova_engine.proofs.SessionLines.{answers_by, met_refused, met_shown}
+use Rattle.nova_engine.proofs.SessionLines.{answers_by, met_ran, met_refused, met_shown, met_ticked}
 use Rattle.nova_engine.proofs.commands.answer.Goals as goal
+
+pub returns-in-Ok-Tick-clause-answers : goal.returns-in-Ok-Tick-clause-answers
+returns-in-Ok-Tick-clause-answers g c =
+    let request : c.in-Ok-Tick.field-0 ≡ Tick c.in-Ok-Tick.moment = rw c.in-Ok-Tick.is at c.in-Ok-Tick.field-0-is in
+    answers_by _ _ _ c.args.store (seen g.H.Host c.args.host.now) (seen g.H.Host c.tick.new.host) c.tick.result
+    (λ commits s xs stands asks. met_ticked c.in-Ok-Tick.moment c.args.store commits _ s xs (subst (IsMet (around_held c.args.store)) (c.in-Ok-Tick.is ∙ ap Ok request) c.requires.met) stands
+    (subst (λ m. AsksMet m s xs) (c.in-Ok-Tick.is ∙ ap Ok request) asks)) c.tick.ensures.answers
+
+pub returns-in-Ok-Run-clause-answers : goal.returns-in-Ok-Run-clause-answers
+returns-in-Ok-Run-clause-answers g c =
+    let request : c.in-Ok-Run.field-0 ≡ Run c.in-Ok-Run.task = rw c.in-Ok-Run.is at c.in-Ok-Run.field-0-is in
+    answers_by _ _ _ c.args.store (seen g.H.Host c.args.host.now) (seen g.H.Host c.run.new.host) c.run.result
+    (λ commits s xs stands asks. met_ran c.in-Ok-Run.task c.args.store commits _ s xs (subst (IsMet (around_held c.args.store)) (c.in-Ok-Run.is ∙ ap Ok request) c.requires.met) stands
+    (subst (λ m. AsksMet m s xs) (c.in-Ok-Run.is ∙ ap Ok request) asks)) c.run.ensures.answers
 
 pub returns-in-Ok-Show-clause-answers : goal.returns-in-Ok-Show-clause-answers
 returns-in-Ok-Show-clause-answers g c =

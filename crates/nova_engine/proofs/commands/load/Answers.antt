@@ -3,7 +3,8 @@ use Rattle.std.proofs.lemmas.Result.{err_from_is_err_and}
 use Rattle.nova_script.specs.Replies as line
 use Rattle.nova_engine.specs.Seen.{seen}
 use Rattle.nova_engine.proofs.Damage.{grows_both, grows_by, grows_same, in_host_read, read_more, read_replied}
-use Rattle.nova_engine.proofs.Replying.{loaded_stops, loaded_takes, stopped_load}
+use Rattle.nova_runner.specs.Steps.{AsksLoad}
+use Rattle.nova_engine.proofs.Replying.{loaded_stops, loaded_takes, reads_nothing, stopped_one}
 use Rattle.nova_engine.proofs.commands.load.Goals as goal
 
 pub returns-in_err-send-in-Ok-clause-answers : goal.returns-in_err-send-in-Ok-clause-answers
@@ -30,7 +31,8 @@ returns-in_ok-send-in-Ok-clause-store g c = record {
 
 pub returns-in-Err-clause-answers : goal.returns-in-Err-clause-answers
 returns-in-Err-clause-answers g c =
-    stopped_load _ c.args.store c.args.rows.now.channel c.args.rows.now.delta _ _ (seen g.H.Host c.args.host.now) (seen g.H.Host c.load.new.host) c.stop_of.ensures c.in-Err.ensures.step c.load.ensures.bytes_read
+    let asks = AsksLoad c.args.rows.now.channel c.args.rows.now.delta in
+    stopped_one _ asks c.args.store _ _ (seen g.H.Host c.args.host.now) (seen g.H.Host c.load.new.host) c.stop_of.ensures c.in-Err.ensures.step (reads_nothing asks c.args.store _ _ c.load.ensures.bytes_read)
 
 pub load-requires-clause-in_host : goal.load-requires-clause-in_host
 load-requires-clause-in_host g c = in_host_read _ c.args.store (g.H.Host.history c.args.host.now) c.requires.in_host

@@ -15,7 +15,7 @@ loop-file-preserved-then-file-eq1 g c =
       small = let fits : c.in-Some.file < 2 ^ 64 = search rules in omega (arith, c.if-file-eq1.true);
       later = omega (arith, i.later, e.cause.later);
       replies_kept = e.reply_faults ∙ i.replies_kept;
-      unread = e.bytes_read ∙ i.unread;
+      format_fault = e.bytes_read ∙ i.format_fault;
     }
 
 pub loop-file-preserved : goal.loop-file-preserved
@@ -29,5 +29,5 @@ loop-file-preserved g c =
       small = i.small;
       later = omega (arith, i.later, e.cause.later);
       replies_kept = e.reply_faults ∙ i.replies_kept;
-      unread = e.bytes_read ∙ i.unread;
+      format_fault = e.bytes_read ∙ i.format_fault;
     }

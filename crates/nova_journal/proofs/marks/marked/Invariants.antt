@@ -10,7 +10,7 @@ invariant-loop-file g l = record {
   small : IfSome l.best (λ x. 4 * x + 1 < 2 ^ 64);
   later : g.H.Host.disk_faults l.fn.host ≤ g.H.Host.disk_faults l.host;
   replies_kept : g.H.Host.reply_faults l.host ≡ g.H.Host.reply_faults l.fn.host;
-  unread : g.H.Host.bytes_read l.host ≡ g.H.Host.bytes_read l.fn.host;
+  format_fault : g.H.Host.bytes_read l.host ≡ g.H.Host.bytes_read l.fn.host;
 }
 
 abbrev left : Option ℕ → ℕ

@@ -1,7 +1,7 @@
 use Rattle.std.proofs.Common.{inr, ⊎_elim, List, length, refl, sym, subst}
 use Rattle.nova_outside.specs.Disk.{TornFrom}
 use Rattle.nova_outside.specs.History.{Event, Outcome, current}
-use Rattle.nova_outside.specs.History.Change.{Written, Synced, SyncedInPart}
+use Rattle.nova_outside.specs.History.Change.{Written, Synced, SyncFailed}
 use Rattle.nova_outside.proofs.Outcomes.{either, stays, there, write_follows, sync_follows, tears_none, written_fits, span, call}
 use Rattle.nova_outside.proofs.writing.write_through.Goals as goal
 
@@ -34,5 +34,5 @@ returns-clause-any_moment g c honest =
     let written = call Q (Written c.args.at n) file h0 h0 mid (span Q file h0 (λ o was. (o, was, tears_none c.args.at n o))) step (write_follows c.args.at n file h0 mid step) in
     let here = returns-clause-crash g c honest in
     ⊎_elim (λ ok. (call Q Synced file h0 mid end written (inr (record { now = current mid file; fits = refl; is = ok })) here).moments)
-    (λ part. (call Q SyncedInPart file h0 mid end written part here).moments)
+    (λ part. (call Q SyncFailed file h0 mid end written part here).moments)
     (either c.sync.result (c.sync.ensures.ok honest) (c.sync.ensures.err honest))

@@ -1,6 +1,6 @@
 use Rattle.std.proofs.Common.{ℕ, List, [], ◌∷◌, ◌++◌, arith, subst, sym, ap, ◌∙◌}
 use Rattle.nova_pig_algebra.specs.Meaning.{Row}
-use Rattle.nova_pig_rows.specs.Readers.{KeepsLater}
+use Rattle.nova_pig_rows.specs.Keeps.{KeepsLater}
 use Rattle.nova_pig_rows.proofs.Steps.{keeps_twice, led_skip, led_more}
 use Rattle.nova_pig_rows.proofs.nodes.add_node.Goals as goal
 

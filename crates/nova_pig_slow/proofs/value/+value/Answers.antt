@@ -49,15 +49,15 @@ value-returns-in_ok-copy-in-Lit t c =
     let g = laws.given-Lit c.in-Lit.text in
     first_of (search rules, grind (arith, common_steps))
 
-pub value-returns-in-Col : goal.value-returns-in-Col
-value-returns-in-Col t c =
+pub value-returns-in-Column : goal.value-returns-in-Column
+value-returns-in-Column t c =
     let v = λ (g : meaning.Given). g.value c.args.row.now (meaning.calls_over c.args.members.now) in
-    subst (λ (x : Value). IfOk c.at.result (λ v. v ≡ x)) (sym (ap (λ x. v (meaning.given x)) c.in-Col.is ∙ ap v (laws.given-Col c.in-Col.place))) c.at.ensures
+    subst (λ (x : Value). IfOk c.at.result (λ v. v ≡ x)) (sym (ap (λ x. v (meaning.given x)) c.in-Column.is ∙ ap v (laws.given-Column c.in-Column.place))) c.at.ensures
 
-pub value-returns-in-GroupCol : goal.value-returns-in-GroupCol
-value-returns-in-GroupCol t c =
+pub value-returns-in-GroupColumn : goal.value-returns-in-GroupColumn
+value-returns-in-GroupColumn t c =
     let v = λ (g : meaning.Given). g.value c.args.row.now (meaning.calls_over c.args.members.now) in
-    subst (λ (x : Value). IfOk c.at-in-GroupCol.result (λ v. v ≡ x)) (sym (ap (λ x. v (meaning.given x)) c.in-GroupCol.is ∙ ap v (laws.given-GroupCol c.in-GroupCol.place))) c.at-in-GroupCol.ensures
+    subst (λ (x : Value). IfOk c.at-in-GroupColumn.result (λ v. v ≡ x)) (sym (ap (λ x. v (meaning.given x)) c.in-GroupColumn.is ∙ ap v (laws.given-GroupColumn c.in-GroupColumn.place))) c.at-in-GroupColumn.ensures
 
 pub value-returns-in-Agg : goal.value-returns-in-Agg
 value-returns-in-Agg t c =

@@ -1,5 +1,5 @@
 use Rattle.std.proofs.Common.{◌≡◌}
-use Rattle.nova_pig_rows.specs.Readers.{KeepsLater}
+use Rattle.nova_pig_rows.specs.Keeps.{KeepsLater}
 use Rattle.nova_pig_rows.proofs.work.Work.release.Given as goal
 
 abbrev pub invariant-loop-node : goal.invariant-loop-node

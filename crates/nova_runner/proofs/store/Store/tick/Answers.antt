@@ -124,4 +124,4 @@ returns-in-Ok-clause-room g c full =
 pub invariant_of-result : goal.invariant_of-result
 invariant_of-result g c =
     let old : Held = record { journal = c.self.inside.journal; flow = c.self.inside.flow; catalog = c.self.inside.catalog; flight = c.self.inside.flight } in
-    tick_kept old c.args.moment c.in-Ok.journal c.tick.new.self c.self.invariant c.tick.ensures
+    tick_kept old c.args.moment c.in-Ok.journal c.tick.new.self c.self.invariant (subst (λ (k : Held). k.catalog.moment ≤ c.args.moment) (sym c.self.view_is) c.requires.later) c.tick.ensures

@@ -1,0 +1,210 @@
+-- What a store asks of a run's commit.
+use Rattle.std.proofs.Common.{◌≡◌, ◌≢◌, inl, inr, ℕ, zero, suc, ◌+◌, ◌<◌, ◌≤◌, ◌^◌, ◌==◌, Bool, true, false, not, ◌&&◌, ◌||◌, List, [], ◌∷◌, ◌++◌, length, map, Option, Some, None, refl, ap, sym, ◌∙◌, subst, arith, sum_by, if◌then◌else◌}
+use Rattle.std.specs.Prelude.{nat_lt, nat_le, slice_index_or}
+use Rattle.std.specs.List.{AllByRecursion}
+use Rattle.std.proofs.lemmas.Bool.Decides.{nat_tests}
+use Rattle.std.proofs.lemmas.List.{length-set}
+use Rattle.nova_path.specs.Lists.{IsOneOf}
+use Rattle.nova_path.specs.Shelf.{Span, HasPath}
+use Rattle.nova_path.specs.Intervals.{size_of, spans}
+use Rattle.nova_path.specs.declared.interval.Interval.{Interval}
+use Rattle.nova_path.proofs.Paths.{path_append, path_grows}
+use Rattle.nova_workflow.specs.declared.flow.Flow.{Flow}
+use Rattle.nova_workflow.specs.declared.flow.Input.{Input}
+use Rattle.nova_workflow.specs.declared.flow.Task.{Task}
+use Rattle.nova_workflow.specs.declared.flow.Trigger.{Trigger}
+use Rattle.nova_workflow.specs.declared.flow.Trigger.TheVariants.{OnData, Every, After}
+use Rattle.nova_pig_pattern.specs.Table.{AreAll}
+use Rattle.nova_admit.specs.Flows.{input_of}
+use Rattle.nova_channel.specs.Reading.{AreNumbered}
+use Rattle.nova_commit.specs.declared.commit.Commit.{Commit}
+use Rattle.nova_commit.specs.declared.commit.Commit.TheVariants as commit
+use Rattle.nova_meta.specs.declared.captured.Captured.{Captured}
+use Rattle.nova_meta.specs.declared.progress.Progress.{Progress}
+use Rattle.nova_meta.specs.declared.wiring.Edge.{Edge}
+use Rattle.nova_meta.specs.declared.wiring.Wiring.{Wiring}
+use Rattle.nova_meta.specs.Catalog.{Entered, Shelved, allows, applied, bound, captured, interval_of, is_task, is_timely, last_moment, leads, may_count, may_have_parts, may_parts, may_rise, may_see_all, next_progress, next_shelf, no_run, nothing_shelved, placed, progress_at, shelf_at, total}
+use Rattle.nova_meta.specs.Named.{Channel, Content, Names, State as StatePart}
+use Rattle.nova_meta.specs.Shelves.{IsShelved}
+use Rattle.nova_meta.specs.Wired.{is_based, wire_at}
+use Rattle.nova_meta.proofs.Allowed.{and_both}
+use Rattle.nova_meta.proofs.Shelved.{next_kept, placed_all}
+use Rattle.nova_machine.specs.Workflow.{Workflow, is_new, output_in, task_in}
+use Rattle.nova_machine.specs.State.{Capture, with_span}
+use Rattle.nova_machine.proofs.Growth.{at_set}
+use Rattle.nova_machine.proofs.Shelves.{shelved, shelve_more}
+use Rattle.nova_trigger.specs.Due.{capture_in, captured_of, newest_in, runs_named}
+use Rattle.nova_execution.specs.Reads.{edge_of}
+use Rattle.nova_execution.proofs.Reading.{same_new}
+use Rattle.nova_runner.specs.Acts.{has_room, own_run}
+use Rattle.nova_runner.specs.Committing.{AreSpare}
+use Rattle.nova_runner.specs.Files.{IsNamed, Piece}
+use Rattle.nova_runner.specs.Readable.{IsReadable}
+use Rattle.nova_runner.specs.Workflow.{named_by}
+use Rattle.nova_runner.specs.declared.ready.Fresh.{Fresh}
+use Rattle.nova_runner.proofs.Leading.{which}
+use Rattle.nova_runner.proofs.Loading.{spans_placed}
+
+equal_itself : (n : ℕ) → (n == n) ≡ true
+equal_itself n = grind (arith, nat_tests)
+
+low_itself : (n : ℕ) → nat_le n n ≡ true
+low_itself n = grind (arith, nat_tests)
+
+-- ---- it is in time, and sees what is there
+
+seen_now : (cat : Entered) (trigger : Trigger) → may_count cat (named_by trigger) (runs_named cat trigger) ≡ true
+seen_now cat OnData = refl
+seen_now cat (Every period) = refl
+seen_now cat (After task) = low_itself (progress_at cat task).runs
+
+in_time : (cat : Entered) (t : ℕ) (trigger : Trigger) (after : Option ℕ) → after ≡ named_by trigger → last_moment (progress_at cat t).last ≤ cat.moment →
+    (nat_le (last_moment (progress_at cat t).last) cat.moment && (nat_le cat.moment cat.moment && may_count cat after (runs_named cat trigger))) ≡ true
+in_time cat t trigger after is late =
+    three (nat_le (last_moment (progress_at cat t).last) cat.moment) (nat_le cat.moment cat.moment) (may_count cat after (runs_named cat trigger)) (grind (arith, nat_tests)) (low_itself cat.moment)
+    (ap (λ o. may_count cat o (runs_named cat trigger)) is ∙ seen_now cat trigger)
+  where
+    three : (a b c : Bool) → a ≡ true → b ≡ true → c ≡ true → (a && (b && c)) ≡ true
+    three true true true p q r = refl
+    three false b c p q r = cc
+    three true false c p q r = cc
+    three true true false p q r = cc
+
+sees : (f : Flow) (cat : Entered) (last : Option Captured) (k : ℕ) (is : List Input) → AreAll (map (input_of f) is) → may_see_all cat last k (map edge_of is) (map (newest_in cat) is) ≡ true
+sees f cat last k [] all = refl
+sees f cat last k (i ∷ is) all =
+    two (nat_le (newest_in cat i) (newest_in cat i)) (is_new i.mode) (nat_le (captured last k) (newest_in cat i) && leads (shelf_at cat i.channel).intervals (newest_in cat i) (newest_in cat i)) (may_see_all cat last (suc k) (map edge_of is) (map (newest_in cat) is))
+    (low_itself (newest_in cat i)) (sym (same_new i.mode) ∙ all.0) (sees f cat last (suc k) is all.1)
+  where
+    two : (a n x r : Bool) → a ≡ true → n ≡ false → r ≡ true → ((a && (not n || x)) && r) ≡ true
+    two true false x true p q s = refl
+    two false n x r p q s = cc
+    two true true x r p q s = cc
+    two true false x false p q s = cc
+
+-- ---- only room keeps it out
+
+only_room : (b k m e h p y a v r n : Bool) → b ≡ true → k ≡ true → m ≡ true → e ≡ true → h ≡ true → p ≡ true → y ≡ true →
+    (b && (k && (m && (((e && a) && (v && (r && (n && (h && p))))) && y)))) ≡ (a && (v && (r && n)))
+only_room true true true true true true true true true true true q1 q2 q3 q4 q5 q6 q7 = refl
+only_room true true true true true true true false v r n q1 q2 q3 q4 q5 q6 q7 = refl
+only_room true true true true true true true true false r n q1 q2 q3 q4 q5 q6 q7 = refl
+only_room true true true true true true true true true false n q1 q2 q3 q4 q5 q6 q7 = refl
+only_room true true true true true true true true true true false q1 q2 q3 q4 q5 q6 q7 = refl
+only_room false k m e h p y a v r n q1 q2 q3 q4 q5 q6 q7 = cc
+only_room true false m e h p y a v r n q1 q2 q3 q4 q5 q6 q7 = cc
+only_room true true false e h p y a v r n q1 q2 q3 q4 q5 q6 q7 = cc
+only_room true true true false h p y a v r n q1 q2 q3 q4 q5 q6 q7 = cc
+only_room true true true true false p y a v r n q1 q2 q3 q4 q5 q6 q7 = cc
+only_room true true true true true false y a v r n q1 q2 q3 q4 q5 q6 q7 = cc
+only_room true true true true true true false a v r n q1 q2 q3 q4 q5 q6 q7 = cc
+
+no_parts : (stateful : Bool) → may_have_parts stateful [] ≡ true
+no_parts true = refl
+no_parts false = refl
+
+-- what the store knows of a task: its wire, and that it reads all of each input
+pub record IsRunTask (f : Flow) (cat : Entered) (task : Task) (t : ℕ) : Type 0 where
+  pub begun : cat.begun ≡ true
+  pub there : t < length cat.tasks
+  pub inputs : (wire_at cat.wiring t).inputs ≡ map edge_of task.inputs
+  pub after : (wire_at cat.wiring t).after ≡ named_by task.trigger
+  pub whole : AreAll (map (input_of f) task.inputs)
+  pub late : last_moment (progress_at cat t).last ≤ cat.moment
+
+pub run_rules : (f : Flow) (cat : Entered) (task : Task) (t size : ℕ) → IsRunTask f cat task t → allows cat (own_run cat t (capture_in (captured_of cat task)) size) ≡ has_room cat (own_run cat t (capture_in (captured_of cat task)) size)
+run_rules f cat task t size is =
+    let c = (wire_at cat.wiring t).output in
+    only_room cat.begun (is_task cat t) (is_timely cat t cat.moment (runs_named cat task.trigger)) (cat.next == cat.next) (may_have_parts (wire_at cat.wiring t).stateful []) (may_parts 0 (cat.next + 1) [])
+    (may_see_all cat (progress_at cat t).last 0 (wire_at cat.wiring t).inputs (map (newest_in cat) task.inputs))
+    (nat_le (total (shelf_at cat c) + size) bound) (may_rise (shelf_at cat c).version) (may_rise (progress_at cat t).runs) (may_rise (cat.next + 0))
+    is.begun (let lt = is.there in grind (arith, nat_tests)) (in_time cat t task.trigger (wire_at cat.wiring t).after is.after is.late) (equal_itself cat.next) (no_parts (wire_at cat.wiring t).stateful) refl
+    (ap (λ es. may_see_all cat (progress_at cat t).last 0 es (map (newest_in cat) task.inputs)) is.inputs ∙ sees f cat (progress_at cat t).last 0 task.inputs is.whole)
+
+-- what a catalog names behind a run's commit is below its next number again
+pub below_run : (cat : Entered) (t : ℕ) (run : Capture) (size : ℕ) → ((p : Piece) → IsNamed cat p → p.block < cat.next) → (w : Content) (b z : ℕ) → Names (applied cat (own_run cat t run size)) w b z → b < cat.next + 1
+below_run cat t run size below (StatePart u part) b z named =
+    let old : Names cat (StatePart u part) b z = at_set (λ n (p : Progress). slice_index_or p.parts part None ≡ Some (record { block = b; size = z }) → slice_index_or (progress_at cat n).parts part None ≡ Some (record { block = b; size = z }))
+    cat.tasks t (next_progress (progress_at cat t) run.versions run.moment run.seen []) no_run (λ n is. is) (λ is. is) u named in
+    let lt = below (record { content = StatePart u part; block = b; size = z }) old in omega (arith, lt)
+below_run cat t run size below (Channel d i j) b z named = elim (which cat (wire_at cat.wiring t).output size d (interval_of i j b z) named) as (λ _. b < cat.next + 1) [
+  | inl old ↦ let lt = below (record { content = Channel d i j; block = b; size = z }) old in omega (arith, lt)
+  | inr new ↦ let e = ap (λ (x : Interval). x.block) new.1 in omega (arith, e)
+]
+
+-- ---- what room gives
+
+module _ (cat : Entered) (t : ℕ) (run : Capture) (size : ℕ) (room : has_room cat (own_run cat t run size) ≡ true) where
+  abbrev out : ℕ
+  out = (wire_at cat.wiring t).output
+
+  behind_sum : (nat_lt (shelf_at cat out).version bound && (nat_lt (progress_at cat t).runs bound && nat_lt (cat.next + 0) bound)) ≡ true
+  behind_sum = (and_both (nat_le (total (shelf_at cat out) + size) bound) _ room).1
+
+  pub run_low : cat.next < 2 ^ 62
+  run_low =
+      let is : nat_lt (cat.next + 0) bound ≡ true = (and_both (nat_lt (progress_at cat t).runs bound) _ (and_both (nat_lt (shelf_at cat out).version bound) _ behind_sum).1).1 in
+      grind (arith, nat_tests)
+
+  pub run_rise : (shelf_at cat out).version < 2 ^ 62
+  run_rise =
+      let is : nat_lt (shelf_at cat out).version bound ≡ true = (and_both (nat_lt (shelf_at cat out).version bound) _ behind_sum).0 in
+      grind (arith, nat_tests)
+
+  pub runs_rise : (progress_at cat t).runs < 2 ^ 62
+  runs_rise =
+      let is : nat_lt (progress_at cat t).runs bound ≡ true = (and_both (nat_lt (progress_at cat t).runs bound) _ (and_both (nat_lt (shelf_at cat out).version bound) _ behind_sum).1).0 in
+      grind (arith, nat_tests)
+
+  pub run_fit : sum_by size_of (shelf_at cat out).intervals + size ≤ 2 ^ 62
+  run_fit =
+      let is : nat_le (total (shelf_at cat out) + size) bound ≡ true = (and_both (nat_le (total (shelf_at cat out) + size) bound) _ room).0 in
+      grind (arith, nat_tests)
+
+  pub run_readable : run.moment ≤ cat.moment → IsReadable cat → IsReadable (applied cat (own_run cat t run size))
+  run_readable late is =
+      let low = run_low in
+      let based = is_based cat.wiring out in
+      let sh = shelf_at cat out in
+      record {
+        below = λ p named. let lt = below_run cat t run size is.below p.content p.block p.size named in omega (arith, lt);
+        numbered = at_set (λ n (k : Shelved). AreNumbered k.intervals) cat.channels out (next_shelf based sh cat.next size) nothing_shelved is.numbered
+            (placed_all (λ (x : Interval). x.block < 2 ^ 62) (interval_of (if based then 0 else sh.version) (sh.version + 1) cat.next size) sh.intervals low (is.numbered out));
+        whole = at_set (λ n (k : Shelved). HasPath (spans k.intervals) 0 k.version) cat.channels out (next_shelf based sh cat.next size) nothing_shelved is.whole (longer sh based (is.shelved out).low cat.next size (is.whole out));
+        next = omega (arith, low);
+        shelved = at_set (λ n (k : Shelved). IsShelved k) cat.channels out (next_shelf based sh cat.next size) nothing_shelved is.shelved (next_kept based sh cat.next size (is.shelved out) run_fit);
+        many = length-set cat.channels out (next_shelf based sh cat.next size) ∙ is.many;
+        timely = at_set (λ n (p : Progress). last_moment p.last ≤ cat.moment) cat.tasks t (next_progress (progress_at cat t) run.versions run.moment run.seen []) no_run is.timely late;
+        versions = at_set (λ n (k : Shelved). k.version ≤ 2 ^ 62) cat.channels out (next_shelf based sh cat.next size) nothing_shelved is.versions (let up = run_rise in omega (arith, up));
+        runs = at_set (λ n (p : Progress). p.runs ≤ 2 ^ 62) cat.tasks t (next_progress (progress_at cat t) run.versions run.moment run.seen []) no_run is.runs (let up = runs_rise in omega (arith, up));
+      }
+    where
+      -- by the new block alone where it is from 0, else behind the path that was there
+      led : (sh : Shelved) (based : Bool) (x : Span) → x ≡ record { from = if based then 0 else sh.version; to = sh.version + 1 } → HasPath (spans sh.intervals) 0 sh.version → HasPath (with_span x (spans sh.intervals)) 0 (sh.version + 1)
+      led sh true x is path = (x ∷ [], (shelved x (spans sh.intervals), ap (λ (y : Span). y.from) is, ap (λ (y : Span). y.to) is))
+      led sh false x is path = (
+        path.0 ++ x ∷ [],
+        path_append (with_span x (spans sh.intervals)) 0 sh.version (sh.version + 1) path.0 (x ∷ [])
+            (path_grows (spans sh.intervals) (with_span x (spans sh.intervals)) (shelve_more x (spans sh.intervals)) 0 sh.version path.0 path.1)
+            (shelved x (spans sh.intervals), ap (λ (y : Span). y.from) is, ap (λ (y : Span). y.to) is),
+      )
+
+      longer : (sh : Shelved) (based : Bool) → AllByRecursion (λ (y : Interval). y.to ≤ sh.version) sh.intervals → (b z : ℕ) → HasPath (spans sh.intervals) 0 sh.version → HasPath (spans (placed (interval_of (if based then 0 else sh.version) (sh.version + 1) b z) sh.intervals)) 0 (sh.version + 1)
+      longer sh based low b z path =
+          subst (λ ss. HasPath ss 0 (sh.version + 1)) (sym (spans_placed (interval_of (if based then 0 else sh.version) (sh.version + 1) b z) sh.intervals sh.version low (omega arith)))
+          (led sh based (record { from = if based then 0 else sh.version; to = sh.version + 1 }) refl path)
+
+  pub run_spare : (fresh : Fresh) → IsReadable cat → fresh.block ≡ cat.next → AreSpare cat (own_run cat t run size) (fresh ∷ [])
+  run_spare fresh is number = record {
+    brings = λ i. number i ∷ [];
+    spare = λ p f named one. elim one as (λ _. f.block ≢ p.block) [
+      | inl e ↦ λ same. let lt = is.below p named in let n = ap (λ (g : Fresh). g.block) e in omega (arith, lt, n, same, number)
+      | inr none ↦ absurd none
+    ];
+    apart = λ f g one other same. only f one ∙ sym (only g other);
+    low = (let lt = run_low in omega (arith, lt, number), tt);
+  }
+    where
+      only : (f : Fresh) → IsOneOf (fresh ∷ []) f → f ≡ fresh
+      only f (inl e) = sym e
+      only f (inr none) = absurd none

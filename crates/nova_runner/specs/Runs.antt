@@ -1,0 +1,75 @@
+-- A run of a store.
+use Rattle.std.specs.Prelude.{◌≡◌, ◌&&◌, nat_lt, ℕ, Bool, false, List, [], ◌∷◌, length, Option, Some, None, IsTrue}
+use Rattle.nova_outside.specs.Disk.{Files}
+use Rattle.nova_outside.specs.History.{Event}
+use Rattle.nova_delta.specs.Merge.{DeltaValue}
+use Rattle.nova_row_codec.specs.Spelling.{spelling_of}
+use Rattle.nova_journal.specs.Log.{frame}
+use Rattle.nova_block.specs.declared.fault.BlockFault.{BlockFault}
+use Rattle.nova_block.specs.declared.fault.BlockFault.TheVariants as block
+use Rattle.nova_commit.specs.Commits.{Fits, commit_bytes}
+use Rattle.nova_commit.specs.declared.commit.Commit.{Commit}
+use Rattle.nova_meta.specs.declared.captured.Captured.{Captured}
+use Rattle.nova_meta.specs.Catalog.{Entered, allows, bound, progress_at, shelf_at}
+use Rattle.nova_meta.specs.Wired.{wire_at}
+use Rattle.nova_meta.specs.Prepared.{IsPrepared}
+use Rattle.nova_machine.specs.Workflow.{task_in}
+use Rattle.nova_machine.specs.State.{State}
+use Rattle.nova_machine.specs.Due.{capture_of}
+use Rattle.nova_machine.specs.Steps.{Run}
+use Rattle.nova_trigger.specs.Due.{capture_in, captured_of}
+use Rattle.nova_execution.specs.Made.{run_block}
+use Rattle.nova_runner.specs.Acts.{IsFull, IsStepDamage, own_run}
+use Rattle.nova_runner.specs.Beginning.{captured_in}
+use Rattle.nova_runner.specs.Committing.{AreSpare, IsReady}
+use Rattle.nova_runner.specs.Held.{Held}
+use Rattle.nova_runner.specs.Steps.{StoreStands}
+use Rattle.nova_runner.specs.declared.ready.Fresh.{Fresh}
+use Rattle.nova_runner.specs.declared.ready.Ready.{Ready}
+use Rattle.nova_runner.specs.declared.stop.Stopped.{Stopped as StoppedCall}
+use Rattle.nova_runner.specs.declared.stop.Stopped.TheVariants as stopped
+
+-- what a run captures that begins now, and its commit where its block has this size
+abbrev pub run_commit : Held → ℕ → ℕ → Commit
+run_commit store t size = own_run store.catalog t (capture_in (captured_in store t)) size
+
+-- each number that a run counts up has room: its output's version, its runs, the next block
+abbrev pub run_counters : Entered → ℕ → Bool
+run_counters cat t = nat_lt (shelf_at cat (wire_at cat.wiring t).output).version bound && (nat_lt (progress_at cat t).runs bound && nat_lt cat.next bound)
+
+-- with a block of some size it has no room
+abbrev pub RunFull : Held → ℕ → Type 0
+RunFull store t = (size : ℕ) × IsFull store.journal.length store.catalog (run_commit store t size)
+
+-- of each state that the store stands for it is the block of the version that the run makes there
+abbrev pub GivesRun : Bool → Held → ℕ → DeltaValue → List Event → Type 0
+GivesRun is_honest store t d a = IsTrue is_honest → (commits : List Commit) (s : State) → StoreStands store commits a s → d ≡ run_block s t (capture_of s t)
+
+-- the frame of a commit and what it makes of the catalog, or the commit breaks a rule
+abbrev pub IsPreparedFor : Held → Commit → Option Ready → Type 0
+IsPreparedFor store c None = allows store.catalog c ≡ false
+IsPreparedFor store c (Some ready) = (ready.framed.items ≡ frame (commit_bytes c)) × IsPrepared store.catalog c ready.prepared
+
+-- What was made ready of a run with this block: the block, whose number is the next one, and the commit.
+pub record IsRunReady (store : Held) (t : ℕ) (d : DeltaValue) (fresh : Fresh) (made : Ready) : Type 0 where
+  pub ready : IsReady store (run_commit store t (length (spelling_of d))) made
+  pub fits : Fits (run_commit store t (length (spelling_of d)))
+  pub spare : AreSpare store.catalog (run_commit store t (length (spelling_of d))) (fresh ∷ [])
+  pub number : fresh.block ≡ store.catalog.next
+  pub bytes : fresh.bytes.items ≡ spelling_of d
+
+-- or the block has no room
+abbrev pub RunReady : Held → ℕ → DeltaValue → Option (Fresh × Ready) → Type 0
+RunReady store t d None = IsFull store.journal.length store.catalog (run_commit store t (length (spelling_of d)))
+RunReady store t d (Some made) = IsRunReady store t d made.0 made.1
+
+-- what is told of inputs that weren't read
+abbrev pub read_stop : Held → BlockFault → StoppedCall
+read_stop store block.Disk = stopped.Disk
+read_stop store (block.Damaged file at) = stopped.Damaged file at
+read_stop store block.NoMemory = stopped.NoMemory store
+
+-- damage is that of the first input on whose path there is one
+abbrev pub StopDamage : Held → ℕ → Files → StoppedCall → Type 0
+StopDamage store t files (stopped.Damaged file at) = IsStepDamage store.flow store.catalog files (Run t) file at
+StopDamage store t files _ = Unit {0}

@@ -104,8 +104,8 @@ fn is_built(pattern: &Pattern) -> bool
 {
     match pattern {
         Pattern::N(_) => true,
-        Pattern::S(_) => false,
-        Pattern::L(_) => false,
+        Pattern::S(_) => true,
+        Pattern::L(_) => true,
         Pattern::F(_) => false,
     }
 }

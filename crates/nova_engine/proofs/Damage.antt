@@ -13,12 +13,13 @@ use Rattle.nova_commit.specs.Commits.{commit_bytes}
 use Rattle.nova_commit.specs.declared.commit.Commit.{Commit}
 use Rattle.nova_commit.specs.declared.commit.Commit.TheVariants as commit
 use Rattle.nova_meta.specs.Catalog.{Entered, shelf_at}
-use Rattle.nova_machine.specs.Workflow.{Workflow}
+use Rattle.nova_machine.specs.Workflow.{Workflow, schema_in}
 use Rattle.nova_execution.specs.Reads.{IsReadDamage, Read}
 use Rattle.nova_script.specs.Replies as line
 use Rattle.nova_runner.specs.Acts.{newest_reads}
 use Rattle.nova_runner.specs.Held.{Held}
 use Rattle.nova_runner.specs.Opening.{AreInOrder, IsBadStore, IsRead, UnopenedTold}
+use Rattle.nova_channel.specs.Reading.{IsDamage}
 use Rattle.nova_runner.specs.Reading.{ShowCause, ShownTold, UnshownGave, why_unshown}
 use Rattle.nova_runner.specs.Runs.{StopDamage}
 use Rattle.nova_runner.specs.Steps.{InHost, IsNoFailedCall, IsStopDamage, StopCause, Why, why_of}
@@ -34,7 +35,7 @@ use Rattle.nova_runner.specs.Workflow.{wiring_of}
 use Rattle.nova_runner.proofs.Flows.{well_wired}
 use Rattle.nova_runner.proofs.Readables.{wired}
 use Rattle.nova_runner.proofs.Shows.{current_replied}
-use Rattle.nova_runner.proofs.Tasks.{reads_there}
+use Rattle.nova_runner.proofs.Tasks.{ReadsOn, reads_on, reads_there}
 use Rattle.nova_engine.specs.declared.status.Status.{Status}
 use Rattle.nova_engine.specs.declared.status.Status.TheVariants as exit
 use Rattle.nova_engine.specs.declared.stop.Stop.{Stop}
@@ -144,7 +145,7 @@ shown_damage h store c s (unshown.Damaged other place) a b is read within told s
       channel = c;
       in_range = within;
       from = 0;
-      to = (shelf_at store.catalog c).version;
+      hop = inl refl;
       damage = told honest;
     } in
     subst (λ (f : Files). IsBadBlock f file at) (sym files) (subst (λ n. IsBadBlock (current a) n at) (file_of found) (subst (λ n. IsBadBlock (current a) other n) (place_of found) here))
@@ -205,10 +206,10 @@ flow_read (commit.Joined c from to block size ∷ cs) flow cat order = absurd or
 flow_read (commit.Collected kept ∷ cs) flow cat order = absurd order
 
 -- a block that one of several reads finds to be none
-bad_read : (files : Files) (commits : List Commit) (flow : Workflow) (cat : Entered) → IsJournalOf files commits flow cat → (rs : List Read) → AllByRecursion (λ (r : Read). r.channel < length flow.channels) rs
+bad_read : (files : Files) (commits : List Commit) (flow : Workflow) (cat : Entered) → IsJournalOf files commits flow cat → (rs : List Read) → AllByRecursion (λ (r : Read). r.channel < length flow.channels) rs → AllByRecursion (ReadsOn cat) rs
     → (file at : ℕ) → IsReadDamage flow.channels cat files rs file at → IsBadBlock files file at
-bad_read files commits flow cat journal [] within file at damage = absurd damage
-bad_read files commits flow cat journal (r ∷ rs) within file at (inl damage) = record {
+bad_read files commits flow cat journal [] within on file at damage = absurd damage
+bad_read files commits flow cat journal (r ∷ rs) within on file at (inl damage) = record {
   commits = commits;
   flow = flow;
   catalog = cat;
@@ -216,10 +217,10 @@ bad_read files commits flow cat journal (r ∷ rs) within file at (inl damage) =
   channel = r.channel;
   in_range = within.0;
   from = r.from;
-  to = r.to;
-  damage = damage;
+  hop = on.0.1;
+  damage = subst (λ n. IsDamage (schema_in flow r.channel) files (shelf_at cat r.channel).intervals r.from n file at) on.0.0 damage;
 }
-bad_read files commits flow cat journal (r ∷ rs) within file at (inr more) = bad_read files commits flow cat journal rs within.1 file at more.1
+bad_read files commits flow cat journal (r ∷ rs) within on file at (inr more) = bad_read files commits flow cat journal rs within.1 on.1 file at more.1
 
 -- a block that a run finds to be none is one of the store that its journal says
 pub ran_damage : (h : Bool) (store : Held) (t : ℕ) (s : Stop) (by : Stopped) (a b : List Event) → why s ≡ why_of by → IsReadIn h store a → t < length store.flow.tasks
@@ -242,7 +243,7 @@ ran_damage h store t s (stopped.Damaged other place) a b is read lt told same fi
     let flow = flow_read own.0 store.flow store.catalog own.1.in_order in
     let here : IsBadBlock (current a) other place =
     bad_read (current a) own.0 store.flow store.catalog (record { generation = store.journal.generation; marked = own.1.marked; log = own.1.log.log; in_order = own.1.in_order })
-    (newest_reads store.catalog t) (reads_there store.flow flow.0 store.catalog flow.1 t lt) other place (told honest) in
+    (newest_reads store.catalog t) (reads_there store.flow flow.0 store.catalog flow.1 t lt) (reads_on store.catalog t) other place (told honest) in
     subst (λ (x : List Event). IsBadBlock (current x) file at) (sym (same tt honest)) (subst (λ n. IsBadBlock (current a) n at) (file_of found) (subst (λ n. IsBadBlock (current a) other n) (place_of found) here))
   where
     file_of : step.Damaged other place ≡ step.Damaged file at → other ≡ file

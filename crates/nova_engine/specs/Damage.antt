@@ -9,6 +9,7 @@ use Rattle.nova_commit.specs.Commits.{commit_bytes}
 use Rattle.nova_commit.specs.declared.commit.Commit.{Commit}
 use Rattle.nova_meta.specs.Catalog.{Entered, shelf_at}
 use Rattle.nova_machine.specs.Workflow.{Workflow, schema_in}
+use Rattle.nova_runner.specs.Acts.{IsHop}
 use Rattle.nova_runner.specs.Files.{journal_file}
 use Rattle.nova_runner.specs.Held.{Held}
 use Rattle.nova_runner.specs.Opening.{AreInOrder, IsRead}
@@ -21,7 +22,7 @@ pub record IsJournalOf (files : Files) (commits : List Commit) (flow : Workflow)
   pub log : IsLog (map commit_bytes commits) (files (journal_file generation))
   pub in_order : AreInOrder commits flow cat
 
--- By the catalog of their journal, the first block that is none on a channel's path between two versions is in this file, and none at this place.
+-- By the catalog of their journal, the first block that is none on a path to a channel's newest version, from 0 or from where a task stands that reads what is new of it, is in this file, and none at this place.
 pub record IsBadBlock (files : Files) (file at : ℕ) : Type 0 where
   pub commits : List Commit
   pub flow : Workflow
@@ -30,8 +31,8 @@ pub record IsBadBlock (files : Files) (file at : ℕ) : Type 0 where
   pub channel : ℕ
   pub in_range : channel < length flow.channels
   pub from : ℕ
-  pub to : ℕ
-  pub damage : IsDamage (schema_in flow channel) files (shelf_at catalog channel).intervals from to file at
+  pub hop : IsHop catalog channel from
+  pub damage : IsDamage (schema_in flow channel) files (shelf_at catalog channel).intervals from (shelf_at catalog channel).version file at
 
 -- Replies were given from then on, the last of them the line that tells a file and a place, and these have this cause.
 pub record TellsDamage (Cause : ℕ → ℕ → Type 0) (a b : List Event) : Type 0 where

@@ -1,31 +1,36 @@
--- What holds of a task that is admitted: it writes the whole of its output anew, of inputs that it reads whole.
-use Rattle.std.proofs.Common.{◌≡◌, ℕ, ◌<◌, Bool, true, false, ◌&&◌, List, length, map, get_or, Some, Result, Ok, Err, refl, ap, sym, ◌∙◌, subst, arith}
+-- What holds of a task that is admitted: how it reads its inputs, and how it writes its output.
+use Rattle.std.proofs.Common.{◌≡◌, inl, inr, ℕ, ◌<◌, Bool, true, false, ◌&&◌, List, length, map, get_or, Some, Result, Ok, Err, refl, ap, sym, ◌∙◌, subst, arith}
 use Rattle.std.specs.Prelude.{nat_eq, slice_get}
 use Rattle.std.specs.List.{All}
 use Rattle.std.proofs.lemmas.Bool.Decides.{nat_tests}
-use Rattle.std.proofs.lemmas.List.Folds.{list_any_at}
+use Rattle.std.proofs.lemmas.List.Folds.{list_any_at, list_any_none}
 use Rattle.std.proofs.lemmas.List.Elements.{All-from_get_or}
 use Rattle.std.proofs.lemmas.Option.{slice_get-get_or}
 use Rattle.nova_workflow.specs.declared.flow.Flow.{Flow}
 use Rattle.nova_workflow.specs.declared.flow.Input.{Input}
 use Rattle.nova_workflow.specs.declared.flow.Task.{Task}
 use Rattle.nova_workflow.specs.Whole.{IsFlow, IsTask}
-use Rattle.nova_workflow.specs.Writers.{writes}
+use Rattle.nova_workflow.specs.Writers.{is_based as based_by, writer_of, writes}
 use Rattle.nova_pig_algebra.specs.Plan.{Plan, plan_key, tree_of_plan}
 use Rattle.nova_pig_pattern.specs.declared.task.PatternKind.{PatternKind}
 use Rattle.nova_pig_pattern.specs.declared.task.PatternKind.TheVariants.{NonIncremental, Stateless, Lookup, Stateful}
 use Rattle.nova_pig_pattern.specs.declared.task.TaskFault.{TaskFault}
-use Rattle.nova_pig_pattern.specs.Table.{AreAll, Fits}
-use Rattle.nova_pig_pattern.proofs.Tabled.{admission_is_the_table}
+use Rattle.nova_pig_pattern.specs.Table.{AreAll, Fits, IsMain, IsOfPattern}
+use Rattle.nova_pig_pattern.proofs.Tabled.{admission_is_the_table, patterns_are_the_table}
 use Rattle.nova_admit.specs.Flows.{HasPattern, HasSchemas, fault_of, if_built, input_of, inputs_of, is_built, told}
 use Rattle.nova_admit.specs.TaskPlans.{admitted, kind_of, plan_of}
 use Rattle.nova_admit.specs.declared.fault.AdmitFault.{AdmitFault}
 use Rattle.nova_admit.specs.declared.plans.Pattern.{Pattern}
 use Rattle.nova_meta.specs.Catalog.{Entered, captured, progress_at}
-use Rattle.nova_machine.specs.Workflow.{no_channel, no_input}
+use Rattle.nova_machine.specs.Workflow.{no_channel, no_input, no_task}
+use Rattle.nova_rowwise.specs.Derived.{main_of}
+use Rattle.nova_rowwise.proofs.RowPlans.{main_is_new}
+use Rattle.nova_histories.specs.Statements.{IsRowPattern}
 use Rattle.nova_trigger.specs.Due.{task_at}
 use Rattle.nova_execution.specs.Reads.{edges_of, run_reads, whole_reads}
+use Rattle.nova_execution.specs.Rows.{plan_reads}
 use Rattle.nova_execution.proofs.Reading.{all_whole}
+use Rattle.nova_execution.proofs.RowReads.{first_row_reads}
 
 kind_same : (a b : PatternKind) → (let r : Result PatternKind AdmitFault = Ok a in r) ≡ Ok b → a ≡ b
 kind_same a b e = cc
@@ -33,35 +38,59 @@ kind_same a b e = cc
 never : (a : AdmitFault) (b : PatternKind) → Err a ≡ Ok b → ⊥
 never a b e = absurd cc
 
-built : (k : PatternKind) → is_built k ≡ true → k ≡ NonIncremental
-built NonIncremental e = refl
-built Stateless e = absurd cc
-built Lookup e = absurd cc
-built Stateful e = absurd cc
+-- what the table of patterns says of an admitted task, and that tasks of its pattern run
+pub record IsOfTable (f : Flow) (t : Task) (q : Pattern) : Type 0 where
+  pub built : is_built (kind_of q) ≡ true
+  pub of_pattern : IsOfPattern (plan_of q).inputs (inputs_of f t) t.based (tree_of_plan (plan_of q)) (kind_of q)
 
-pub record IsAnew (f : Flow) (t : Task) (kind : PatternKind) : Type 0 where
-  pub kind_is : kind ≡ NonIncremental
+-- its inputs are read whole, and its output is written anew
+pub record IsAnew (f : Flow) (t : Task) : Type 0 where
   pub whole : AreAll (map (input_of f) t.inputs)
   pub anew : t.based ≡ true
 
+-- its main input alone is read as what is new, and its output is changed
+pub record IsByRow (f : Flow) (t : Task) (p : Plan) : Type 0 where
+  pub main : IsMain (map (input_of f) t.inputs) (main_of (tree_of_plan p))
+  pub changes : t.based ≡ false
+
 module _ (f : Flow) (t : Task) where
-  by_test : (k kind : PatternKind) (b : Bool) → is_built k ≡ b → if_built t.name k b ≡ Ok kind → (k ≡ kind) × (k ≡ NonIncremental)
-  by_test k kind true is e = (kind_same k kind e, built k is)
+  by_test : (k kind : PatternKind) (b : Bool) → is_built k ≡ b → if_built t.name k b ≡ Ok kind → (k ≡ kind) × (is_built k ≡ true)
+  by_test k kind true is e = (kind_same k kind e, is)
   by_test k kind false is e = absurd (never _ kind e)
 
-  by_answer : (r : Result PatternKind TaskFault) (kind : PatternKind) → told f t.name r ≡ Ok kind → (r ≡ Ok kind) × (kind ≡ NonIncremental)
-  by_answer (Ok k) kind e = let is = by_test k kind (is_built k) refl e in (ap (λ (x : PatternKind). let r : Result PatternKind TaskFault = Ok x in r) is.0, sym is.0 ∙ is.1)
+  by_answer : (r : Result PatternKind TaskFault) (kind : PatternKind) → told f t.name r ≡ Ok kind → (r ≡ Ok kind) × (is_built kind ≡ true)
+  by_answer (Ok k) kind e = let is = by_test k kind (is_built k) refl e in (ap (λ (x : PatternKind). let r : Result PatternKind TaskFault = Ok x in r) is.0, ap is_built (sym is.0) ∙ is.1)
   by_answer (Err x) kind e = absurd (never (fault_of f t.name x) kind e)
 
-  pub is_anew : (q : Pattern) → HasPattern f t q → IsAnew f t (kind_of q)
-  is_anew q has =
+  pub of_table : (q : Pattern) → HasPattern f t q → IsOfTable f t q
+  of_table q has =
       let is = by_answer (admitted (plan_of q) (inputs_of f t) t.based) (kind_of q) has.kind in
       let p = plan_of q in
       let table = (admission_is_the_table p.inputs (inputs_of f t) t.based p.output.key (tree_of_plan p) (plan_key p) (Ok (kind_of q))).0 is.0 in
-      let fits = subst (Fits p.inputs (inputs_of f t) t.based (tree_of_plan p)) is.1 table.2.fits in
-      record { kind_is = is.1; whole = fits.0; anew = fits.1 }
+      record { built = is.1; of_pattern = table.2 }
 
--- ---- its output is so written
+  fits : (q : Pattern) (kind : PatternKind) → HasPattern f t q → kind_of q ≡ kind → Fits (plan_of q).inputs (inputs_of f t) t.based (tree_of_plan (plan_of q)) kind
+  fits q kind has is = subst (Fits (plan_of q).inputs (inputs_of f t) t.based (tree_of_plan (plan_of q))) is (of_table q has).of_pattern.fits
+
+  pub is_anew : (q : Pattern) → HasPattern f t q → kind_of q ≡ NonIncremental → IsAnew f t
+  is_anew q has is = let fit = fits q NonIncremental has is in record { whole = fit.0; anew = fit.1 }
+
+  pub is_by_row : (q : Pattern) → HasPattern f t q → IsRowPattern (kind_of q) → IsByRow f t (plan_of q)
+  is_by_row q has row =
+      let p = plan_of q in
+      record {
+        main = main_is_new p (inputs_of f t) t.based (kind_of q) ((patterns_are_the_table p.inputs (inputs_of f t) t.based (tree_of_plan p) (kind_of q)).1 (of_table q has).of_pattern) row;
+        changes = elim row as (λ _. t.based ≡ false) [
+          | inl is ↦ (fits q Stateless has is).2
+          | inr is ↦ (fits q Lookup has is).3
+        ];
+      }
+
+-- no task of the last pattern is admitted
+pub never_groups : (f : Flow) (t : Task) (q : Pattern) → HasPattern f t q → kind_of q ≡ Stateful → ⊥
+never_groups f t q has is = let no : is_built Stateful ≡ true = ap is_built (sym is) ∙ (of_table f t q has).built in cc
+
+-- ---- how its output is written
 
 both_hold : (a b : Bool) → a ≡ true → b ≡ true → (a && b) ≡ true
 both_hold true b p q = q
@@ -70,39 +99,55 @@ both_hold false b p q = cc
 same_number : (n : ℕ) → nat_eq n n ≡ true
 same_number n = grind (arith, nat_tests)
 
+same_numbers : (m n : ℕ) → nat_eq m n ≡ true → m ≡ n
+same_numbers m n e = grind (arith, nat_tests)
+
+same_some : (m n : ℕ) → Some m ≡ Some n → m ≡ n
+same_some m n e = cc
+
 pub is_task : (f : Flow) (t : ℕ) → IsFlow f → t < length f.tasks → IsTask f t (task_at f t)
 is_task f t whole lt = whole.tasks t (task_at f t) (slice_get-get_or f.tasks t _ lt)
 
-pub written_anew : (f : Flow) (t : ℕ) → IsFlow f → t < length f.tasks → (task_at f t).based ≡ true → (get_or f.channels (task_at f t).output no_channel).based ≡ true
-written_anew f t whole lt anew =
-    let c = (task_at f t).output in
-    let channel = whole.channels c (get_or f.channels c no_channel) (slice_get-get_or f.channels c no_channel (is_task f t whole lt).output) in
-    channel.based ∙ list_any_at (λ (u : Task). writes c u && u.based) f.tasks t _ lt (both_hold (writes c (task_at f t)) (task_at f t).based (same_number c) anew)
+module _ (f : Flow) (t : ℕ) (whole : IsFlow f) (lt : t < length f.tasks) where
+  abbrev c : ℕ
+  c = (task_at f t).output
+
+  said : (get_or f.channels c no_channel).based ≡ based_by f.tasks c
+  said = (whole.channels c (get_or f.channels c no_channel) (slice_get-get_or f.channels c no_channel (is_task f t whole lt).output)).based
+
+  pub written_anew : (task_at f t).based ≡ true → (get_or f.channels c no_channel).based ≡ true
+  written_anew anew = said ∙ list_any_at (λ (u : Task). writes c u && u.based) f.tasks t _ lt (both_hold (writes c (task_at f t)) (task_at f t).based (same_number c) anew)
+
+  -- the task that writes a channel is one
+  other : (k : ℕ) → k < length f.tasks → (task_at f t).based ≡ false → (b : Bool) → writes c (task_at f k) ≡ b → (writes c (task_at f k) && (task_at f k).based) ≡ false
+  other k low e true here =
+      let output : (task_at f k).output ≡ c = same_numbers (task_at f k).output c here in
+      let one : k ≡ t = same_some k t (sym (is_task f k whole low).writes ∙ ap (writer_of f.tasks) output ∙ (is_task f t whole lt).writes) in
+      ap (λ (b : Bool). b && (task_at f k).based) here ∙ ap (λ (n : ℕ). (task_at f n).based) one ∙ e
+  other k low e false here = ap (λ (b : Bool). b && (task_at f k).based) here
+
+  pub written_by_changes : (task_at f t).based ≡ false → (get_or f.channels c no_channel).based ≡ false
+  written_by_changes changes = said ∙ list_any_none (λ (u : Task). writes c u && u.based) f.tasks
+      (All-from_get_or (λ (u : Task). (writes c u && u.based) ≡ false) f.tasks no_task (λ k low. other k low changes (writes c (task_at f k)) refl))
 
 pub inputs_within : (f : Flow) (t : ℕ) → IsFlow f → t < length f.tasks → All (λ (i : Input). i.channel < length f.channels) (task_at f t).inputs
 inputs_within f t whole lt =
     All-from_get_or (λ (i : Input). i.channel < length f.channels) (task_at f t).inputs no_input
     (λ k low. (is_task f t whole lt).inputs k (get_or (task_at f t).inputs k no_input) (slice_get-get_or (task_at f t).inputs k no_input low))
 
--- what a run of such a task reads is each input whole
-pub reads_whole : (f : Flow) (t : ℕ) (cat : Entered) (kind : PatternKind) (vs : List ℕ) → IsAnew f (task_at f t) kind → run_reads (edges_of (task_at f t)) cat t vs ≡ whole_reads (task_at f t).inputs vs
-reads_whole f t cat kind vs anew = all_whole f (captured (progress_at cat t).last) 0 (task_at f t).inputs vs anew.whole
+-- ---- what its runs read
 
--- no other pattern is admitted
-pub anew_at : (f : Flow) (t : ℕ) (q : Pattern) → t < length f.tasks → ((u : Task) → slice_get f.tasks t ≡ Some u → HasPattern f u q) → IsAnew f (task_at f t) (kind_of q)
-anew_at f t q lt has = is_anew f (task_at f t) q (has (task_at f t) (slice_get-get_or f.tasks t _ lt))
+-- each input whole
+pub reads_whole : (f : Flow) (t : ℕ) (cat : Entered) (vs : List ℕ) → IsAnew f (task_at f t) → run_reads (edges_of (task_at f t)) cat t vs ≡ whole_reads (task_at f t).inputs vs
+reads_whole f t cat vs anew = all_whole f (captured (progress_at cat t).last) 0 (task_at f t).inputs vs anew.whole
+
+-- the main input from its cursor on, the others whole
+pub reads_new : (f : Flow) (t : ℕ) (cat : Entered) (p : Plan) (vs : List ℕ) → length vs ≡ length (task_at f t).inputs → IsByRow f (task_at f t) p →
+    run_reads (edges_of (task_at f t)) cat t vs ≡ plan_reads cat t p (task_at f t).inputs vs
+reads_new f t cat p vs each by_row = first_row_reads f (captured (progress_at cat t).last) (task_at f t).inputs vs (main_of (tree_of_plan p)) each by_row.main
 
 pub has_at : (f : Flow) (t : ℕ) (q : Pattern) → t < length f.tasks → ((u : Task) → slice_get f.tasks t ≡ Some u → HasPattern f u q) → HasPattern f (task_at f t) q
 has_at f t q lt has = has (task_at f t) (slice_get-get_or f.tasks t _ lt)
 
 pub schemas_at : (f : Flow) (t : ℕ) (p : Plan) → t < length f.tasks → ((u : Task) → slice_get f.tasks t ≡ Some u → HasSchemas f u p) → HasSchemas f (task_at f t) p
 schemas_at f t p lt has = has (task_at f t) (slice_get-get_or f.tasks t _ lt)
-
-pub not_stateless : Stateless ≡ NonIncremental → ⊥
-not_stateless e = cc
-
-pub not_lookup : Lookup ≡ NonIncremental → ⊥
-not_lookup e = cc
-
-pub not_stateful : Stateful ≡ NonIncremental → ⊥
-not_stateful e = cc

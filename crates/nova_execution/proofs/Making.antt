@@ -61,7 +61,7 @@ module _ (channels : List Channel) (cat : Entered) (files : Files) (s : State) (
 -- ---- the version that it makes
 
 -- the plan of a task, as the machine has it
-plan_there : (qs : List Pattern) (t : ℕ) (q : Pattern) → slice_get qs t ≡ Some q → get_or (map task_plan qs) t no_plan ≡ task_plan q
+pub plan_there : (qs : List Pattern) (t : ℕ) (q : Pattern) → slice_get qs t ≡ Some q → get_or (map task_plan qs) t no_plan ≡ task_plan q
 plan_there [] t q is = absurd (cc)
 plan_there (p ∷ qs) zero q is = ap task_plan (one p q is)
   where
@@ -85,7 +85,7 @@ run_of_base s t run table below based schema rows =
 
 module _ (a : Admission) (cat : Entered) (files : Files) (t : ℕ) (run : Captured) (p : Plan) (ts : List TableValue)
     (whole : IsFlow a.flow) (lt : t < length a.flow.tasks) (pattern : slice_get a.patterns t ≡ Some (N p)) (schemas : HasSchemas a.flow (task_at a.flow t) p)
-    (anew : IsAnew a.flow (task_at a.flow t) NonIncremental)
+    (anew : IsAnew a.flow (task_at a.flow t))
     (are : AreTables a.flow.channels cat files (whole_reads (task_at a.flow t).inputs run.versions) ts) where
   made_in : (s : State) → IsHeldFor a cat files t run s → base_of (stored p ts) ≡ run_block s t (capture_in run)
   made_in s held =
@@ -93,7 +93,7 @@ module _ (a : Admission) (cat : Entered) (files : Files) (t : ℕ) (run : Captur
       let plan : plan_in s.flow t ≡ task_plan (N p) = ap (λ (ps : List TaskPlan). get_or ps t no_plan) held.flow.plans ∙ plan_there a.patterns t (N p) pattern in
       let out : output_in s.flow t ≡ (task_at a.flow t).output = ap (λ (u : Task). u.output) task in
       let reads : run_reads (edges_of (task_in s.flow t)) cat t run.versions ≡ whole_reads (task_at a.flow t).inputs run.versions =
-      ap (λ (u : Task). run_reads (edges_of u) cat t run.versions) task ∙ reads_whole a.flow t cat NonIncremental run.versions anew in
+      ap (λ (u : Task). run_reads (edges_of u) cat t run.versions) task ∙ reads_whole a.flow t cat run.versions anew in
       let rows : map delta.rows_of ts ≡ captured_rows s t (capture_in run) =
       all_rows a.flow.channels cat files s held.flow.channels (task_at a.flow t).inputs run.versions ts are (subst (All (IsHeld cat files s)) reads held.inputs)
       ∙ ap (λ (u : Task). inputs_at s u.inputs run.versions) (sym task) in
@@ -113,8 +113,8 @@ module _ (a : Admission) (cat : Entered) (files : Files) (t : ℕ) (run : Captur
 
 -- so it is with the block that a call gives
 pub made_if : (a : Admission) (cat : Entered) (files : Files) (t : ℕ) (run : Captured) (p : Plan) (q : Pattern) →
-    IsFlow a.flow → t < length a.flow.tasks → slice_get a.patterns t ≡ Some q → q ≡ N p → HasSchemas a.flow (task_at a.flow t) p → IsAnew a.flow (task_at a.flow t) NonIncremental →
+    IsFlow a.flow → t < length a.flow.tasks → slice_get a.patterns t ≡ Some q → q ≡ N p → HasSchemas a.flow (task_at a.flow t) p → IsAnew a.flow (task_at a.flow t) →
     (r : Result DeltaValue BlockFault) → IfOk r (IsComputed a.flow.channels cat files (whole_reads (task_at a.flow t).inputs run.versions) p) → IfOk r (λ d. (s : State) → IsHeldFor a cat files t run s → d ≡ run_block s t (capture_in run))
-made_if a cat files t run p q whole lt pattern is schemas anew (Ok d) computed =
-    λ s held. computed.is ∙ made_in a cat files t run p computed.tables whole lt (pattern ∙ ap Some is) schemas anew computed.are s held
-made_if a cat files t run p q whole lt pattern is schemas anew (Err e) computed = tt
+made_if a cat files t run p q flow lt pattern is schemas anew (Ok d) computed =
+    λ s held. computed.is ∙ made_in a cat files t run p computed.tables flow lt (pattern ∙ ap Some is) schemas anew computed.are s held
+made_if a cat files t run p q flow lt pattern is schemas anew (Err e) computed = tt

@@ -5,7 +5,7 @@ use Rattle.std.proofs.lemmas.List.{map-append, take_more}
 use Rattle.std.proofs.lemmas.List.Sums.{sum_by-append, sum_by-cons}
 use Rattle.nova_value.specs.Rows.{Shape}
 use Rattle.nova_outside.specs.Disk.{Files}
-use Rattle.nova_delta.specs.Merge.{TableValue}
+use Rattle.nova_delta.specs.Merge.{DeltaValue, TableValue}
 use Rattle.nova_path.specs.declared.interval.Interval.{Interval}
 use Rattle.nova_workflow.specs.declared.flow.Channel.{Channel}
 use Rattle.nova_workflow.specs.declared.flow.Input.{Input}
@@ -20,8 +20,8 @@ use Rattle.nova_admit.specs.Flows.{input_of, is_new as seen_new}
 use Rattle.nova_machine.specs.Workflow.{is_new}
 use Rattle.std.specs.Result.{IfOk, OnOk}
 use Rattle.nova_path.specs.Intervals.{AreApart}
-use Rattle.nova_channel.specs.Reading.{HasReadTable, IsDamage}
-use Rattle.nova_channel.proofs.Whole.{tables_are_whole}
+use Rattle.nova_channel.specs.Reading.{HasRead, HasReadTable, IsDamage}
+use Rattle.nova_channel.proofs.Whole.{reads_are_whole, tables_are_whole}
 use Rattle.nova_execution.specs.Reads.{AreTables, IsDamaged, IsReadDamage, IsTable, IsWhole, OneTold, Read, RunTold, edge_of, intervals_at, read_size, reads_from, reads_size, schema_at, whole, whole_reads}
 
 abbrev pub no_read : Read
@@ -60,7 +60,7 @@ split_at (r ∷ rs) zero lt = refl
 split_at (r ∷ rs) (suc k) lt = ap (λ (xs : List Read). r ∷ xs) (split_at rs k (omega arith))
 
 module _ (channels : List Channel) (cat : Entered) (files : Files) where
-  whole_of : (r : Read) (t : TableValue) → IsTable channels cat files r t → r.from ≡ 0 → IsWhole (schema_at channels r.channel) files (intervals_at cat r.channel) r.from r.to
+  pub whole_of : (r : Read) (t : TableValue) → IsTable channels cat files r t → r.from ≡ 0 → IsWhole (schema_at channels r.channel) files (intervals_at cat r.channel) r.from r.to
   whole_of r t is from = subst (λ n. IsWhole (schema_at channels r.channel) files (intervals_at cat r.channel) n r.to) (sym from)
       (record { route = is.route; chosen = is.chosen; blocks = is.merges.blocks; read = is.merges.read })
 
@@ -107,6 +107,11 @@ from_nothing (i ∷ is) (v ∷ vs) (suc k) = (refl, from_nothing is vs k)
 pub whole_if : (s : Shape) (files : Files) (shelf : List Interval) (to : ℕ) (r : Result TableValue BlockFault) → AreApart shelf → IfOk r (λ t. HasReadTable s files shelf to t.rows) → OnOk r ((file at : ℕ) → IsDamage s files shelf 0 to file at → ⊥)
 whole_if s files shelf to (Ok t) apart is = λ file at damage. tables_are_whole s files shelf to t.rows file at apart is damage
 whole_if s files shelf to (Err e) apart is = tt
+
+-- and so with what is new
+pub new_whole_if : (s : Shape) (files : Files) (shelf : List Interval) (from to : ℕ) (r : Result DeltaValue BlockFault) → AreApart shelf → IfOk r (λ d. HasRead s files shelf from to d.entries) → OnOk r ((file at : ℕ) → IsDamage s files shelf from to file at → ⊥)
+new_whole_if s files shelf from to (Ok d) apart is = λ file at damage. reads_are_whole s files shelf from to d.entries file at apart is damage
+new_whole_if s files shelf from to (Err e) apart is = tt
 
 -- ---- their sizes
 

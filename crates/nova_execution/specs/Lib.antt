@@ -1,3 +1,5 @@
 pub mod Reads
 pub mod Base
 pub mod Made
+pub mod Rows
+pub mod Executed

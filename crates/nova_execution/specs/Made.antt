@@ -1,26 +1,30 @@
 -- What a run makes, on the plain machine.
-use Rattle.std.specs.Prelude.{◌≡◌, ℕ, ◌≤◌, map}
+use Rattle.std.specs.Prelude.{◌≡◌, ℕ, ◌<◌, ◌≤◌, length, map}
 use Rattle.std.specs.List.{All}
 use Rattle.nova_outside.specs.Disk.{Files}
 use Rattle.nova_delta.specs.Merge.{DeltaValue}
 use Rattle.nova_path.specs.Shelf.{Span}
+use Rattle.nova_workflow.specs.declared.flow.Flow.{Flow}
 use Rattle.nova_admit.specs.Flows.{Admission}
-use Rattle.nova_admit.specs.TaskPlans.{plan_of, kind_of}
-use Rattle.nova_admit.specs.declared.plans.Pattern.{Pattern}
 use Rattle.nova_channel.specs.Laws.{GivesBlocks}
 use Rattle.nova_meta.specs.declared.captured.Captured.{Captured}
-use Rattle.nova_meta.specs.Catalog.{Entered}
-use Rattle.nova_machine.specs.Workflow.{TaskPlan, Workflow, is_based, output_in, schema_in, task_in}
+use Rattle.nova_meta.specs.Catalog.{Entered, shelf_at}
+use Rattle.nova_meta.specs.Wired.{wire_at}
+use Rattle.nova_machine.specs.Workflow.{Workflow, is_based, output_in, schema_in, task_in}
 use Rattle.nova_machine.specs.State.{Capture, State, block_at, kept_at, newest}
 use Rattle.nova_machine.specs.Due.{last_run}
 use Rattle.nova_machine.specs.Steps.{add_run, next_span}
 use Rattle.nova_machine.specs.Reachable.{IsReachable}
-use Rattle.nova_trigger.specs.Due.{last_in}
+use Rattle.nova_trigger.specs.Due.{capture_in, last_in, task_at}
+use Rattle.nova_histories.specs.Made.{IsCurrent}
+pub use Rattle.nova_histories.specs.Planned.{IsPlannedFlow, task_plan}
 use Rattle.nova_execution.specs.Reads.{Read, edges_of, intervals_at, run_reads}
 
--- the plan of a task with its pattern, as the machine has it
-abbrev pub task_plan : Pattern → TaskPlan
-task_plan q = record { plan = plan_of q; pattern = kind_of q }
+-- a catalog knows the inputs and the output of a task
+pub record HasTask (f : Flow) (cat : Entered) (t : ℕ) : Type 0 where
+  pub there : t < length cat.tasks
+  pub inputs : (wire_at cat.wiring t).inputs ≡ edges_of (task_at f t)
+  pub output : (task_at f t).output < length cat.channels
 
 -- a workflow is the admitted one
 pub record IsOf (a : Admission) (w : Workflow) : Type 0 where
@@ -33,11 +37,14 @@ pub record IsHeld (cat : Entered) (files : Files) (s : State) (r : Read) : Type 
   pub gives : GivesBlocks (schema_in s.flow r.channel) files (kept_at s r.channel).versions (intervals_at cat r.channel)
   pub there : r.to ≤ newest s r.channel
 
--- A state of the admitted workflow that commands reach: the files have all that a run of the task reads there, and the task's last run is the catalog's.
+-- A state of the admitted workflow that commands reach, where this run begins or is in flight: the files have all that it reads there, and the task's last run and the newest version of its output are the catalog's.
 pub record IsHeldFor (a : Admission) (cat : Entered) (files : Files) (t : ℕ) (run : Captured) (s : State) : Type 0 where
   pub flow : IsOf a s.flow
+  pub planned : IsPlannedFlow s.flow
   pub reached : IsReachable s
+  pub current : IsCurrent s t (capture_in run)
   pub last : last_run s t ≡ last_in cat t
+  pub newest : newest s (output_in s.flow t) ≡ (shelf_at cat (output_in s.flow t)).version
   pub inputs : All (IsHeld cat files s) (run_reads (edges_of (task_in s.flow t)) cat t run.versions)
 
 -- the span of the version that a run makes

@@ -16,7 +16,7 @@ use nova_workflow::{Channel, Input};
 use std::alloc::{AllocError, Global};
 
 /// The schema of a channel.
-fn schema_of(channels: &[Channel], channel: u32) -> &Schema
+pub(crate) fn schema_of(channels: &[Channel], channel: u32) -> &Schema
     requires { channel < length channels.now }
     ensures { result.now ≡ spec.schema_at channels.now channel }
 {
@@ -52,7 +52,7 @@ fn read_input<H: Host>(
 }
 
 /// One table more.
-fn add_table(tables: &mut Vec<Table>, table: Table) -> Result<(), AllocError>
+pub(crate) fn add_table(tables: &mut Vec<Table>, table: Table) -> Result<(), AllocError>
     ensures { OnOk result (tables.new.items ≡ tables.old.items ++ table ∷ []) }
 {
     tables.push(table)?;

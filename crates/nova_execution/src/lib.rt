@@ -3,6 +3,7 @@
 
 mod base;
 mod inputs;
+mod rows;
 mod runs;
 
 pub use runs::execute;

@@ -15,6 +15,7 @@ use Rattle.nova_meta.specs.Named.{Channel, Content, Names, State as StatePart}
 use Rattle.nova_meta.specs.Wired.{is_based, is_input}
 use Rattle.nova_commit.specs.declared.commit.Commit.TheVariants as commit
 use Rattle.nova_meta.proofs.Allowed.{and_both}
+use Rattle.nova_meta.proofs.Sound.{sound_step}
 use Rattle.nova_meta.proofs.Shelved.{next_kept, placed_all}
 use Rattle.nova_machine.specs.Workflow.{Workflow, is_input as flow_input}
 use Rattle.nova_machine.specs.State.{with_span}
@@ -75,32 +76,18 @@ below_next cat c size below (Channel d i j) b z named = elim (which cat c size d
   | inr new ↦ let e = ap (λ (x : Interval). x.block) new.1 in omega (arith, e)
 ]
 
-pub load_readable : (cat : Entered) (f : Workflow) (c size : ℕ) → HasFlow f.text f → flow_input f c ≡ true → cat.wiring ≡ wiring_of f → IsReadable cat → has_room cat (commit.Load c cat.next size) ≡ true → IsReadable (applied cat (commit.Load c cat.next size))
-load_readable cat f c size read input wired is room =
+pub load_readable : (cat : Entered) (c size : ℕ) → IsReadable cat → has_room cat (commit.Load c cat.next size) ≡ true → allows cat (commit.Load c cat.next size) ≡ true → IsReadable (applied cat (commit.Load c cat.next size))
+load_readable cat c size is room allowed =
     let low = load_low cat c size room in
     let based = is_based cat.wiring c in
     let sh = shelf_at cat c in
-    let free : based ≡ false = ap (λ w. is_based w c) wired ∙ free_known f read c input in
     record {
       below = λ p named. below_next cat c size is.below p.content p.block p.size named;
       numbered = at_set (λ n (k : Shelved). AreNumbered k.intervals) cat.channels c (next_shelf based sh cat.next size) nothing_shelved is.numbered
           (placed_all (λ (x : Interval). x.block < 2 ^ 62) (interval_of (if based then 0 else sh.version) (sh.version + 1) cat.next size) sh.intervals low (is.numbered c));
-      whole = at_set (λ n (k : Shelved). HasPath (spans k.intervals) 0 k.version) cat.channels c (next_shelf based sh cat.next size) nothing_shelved is.whole (longer sh based free (is.shelved c).low cat.next size (is.whole c));
-      next = omega (arith, low);
-      shelved = at_set (λ n (k : Shelved). IsShelved k) cat.channels c (next_shelf based sh cat.next size) nothing_shelved is.shelved (next_kept based sh cat.next size (is.shelved c) (load_fit cat c size room));
-      many = length-set cat.channels c (next_shelf based sh cat.next size) ∙ is.many;
+      sound = sound_step cat.wiring cat (commit.Load c cat.next size) is.sound allowed;
       timely = is.timely;
-      versions = at_set (λ n (k : Shelved). k.version ≤ 2 ^ 62) cat.channels c (next_shelf based sh cat.next size) nothing_shelved is.versions (let up = load_rise cat c size room in omega (arith, up));
-      runs = is.runs;
     }
-  where
-    longer : (sh : Shelved) (based : Bool) → based ≡ false → AllByRecursion (λ (y : Interval). y.to ≤ sh.version) sh.intervals → (b z : ℕ) → HasPath (spans sh.intervals) 0 sh.version → HasPath (spans (placed (interval_of (if based then 0 else sh.version) (sh.version + 1) b z) sh.intervals)) 0 (sh.version + 1)
-    longer sh based free low b z path =
-        let x : Span = record { from = if based then 0 else sh.version; to = sh.version + 1 } in
-        let begins : (if based then 0 else sh.version) ≡ sh.version = ap (λ (c : Bool). if c then 0 else sh.version) free in
-        let shelf = with_span x (spans sh.intervals) in
-        subst (λ ss. HasPath ss 0 (sh.version + 1)) (sym (spans_placed (interval_of (if based then 0 else sh.version) (sh.version + 1) b z) sh.intervals sh.version low (omega arith)))
-        (path.0 ++ x ∷ [], path_append shelf 0 sh.version (sh.version + 1) path.0 (x ∷ []) (path_grows (spans sh.intervals) shelf (shelve_more x (spans sh.intervals)) 0 sh.version path.0 path.1) (shelved x (spans sh.intervals), begins, refl))
 
 pub load_spare : (cat : Entered) (c size : ℕ) (fresh : Fresh) → IsReadable cat → has_room cat (commit.Load c cat.next size) ≡ true → fresh.block ≡ cat.next → AreSpare cat (commit.Load c cat.next size) (fresh ∷ [])
 load_spare cat c size fresh is room number = record {

@@ -91,7 +91,7 @@ whole_flow w has = subst (λ (v : Workflow). IsFlow (flow_of v)) has.is (flows_a
 pub one_workflow : (store : Held) → IsKept store → IsOneWorkflow (flow_of store.flow) store.catalog store.flight
 one_workflow store kept = record {
   whole = whole_flow store.flow kept.read;
-  channels = kept.readable.many ∙ ap (λ (w : Wiring). length w.writers) kept.wired ∙ same_count store.flow;
+  channels = kept.readable.sound.entered.channels ∙ ap (λ (w : Wiring). length w.writers) kept.wired ∙ same_count store.flow;
   tasks = kept.tasks;
   flights = kept.flights;
 }

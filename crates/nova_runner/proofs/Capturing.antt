@@ -1,12 +1,12 @@
 -- What a store captures and reads is what its state has.
-use Rattle.std.proofs.Common.{◌≡◌, ℕ, suc, ◌≤◌, List, [], ◌∷◌, map, ap, sym, ◌∙◌, subst, arith}
+use Rattle.std.proofs.Common.{◌≡◌, inl, ℕ, suc, ◌≤◌, List, [], ◌∷◌, map, ap, sym, ◌∙◌, subst, arith}
 use Rattle.std.specs.List.{All}
 use Rattle.std.proofs.lemmas.List.Elements.{All-cons, All-nil}
 use Rattle.nova_outside.specs.History.{Event, current}
 use Rattle.nova_workflow.specs.declared.flow.Input.{Input}
 use Rattle.nova_commit.specs.declared.commit.Commit.{Commit}
 use Rattle.nova_meta.specs.Catalog.{shelf_at}
-use Rattle.nova_machine.specs.Workflow.{TaskPlan, Workflow, task_in}
+use Rattle.nova_machine.specs.Workflow.{TaskPlan, Workflow, output_in, task_in}
 use Rattle.nova_machine.specs.State.{State, newest}
 use Rattle.nova_machine.specs.Due.{capture_of}
 use Rattle.nova_trigger.specs.Due.{capture_in, captured_of, newest_in}
@@ -20,6 +20,7 @@ use Rattle.nova_runner.specs.Held.{Held}
 use Rattle.nova_runner.specs.Steps.{StoreStands}
 use Rattle.nova_runner.specs.Texts.{workflow_of}
 use Rattle.nova_runner.proofs.Beginning.{stand_for}
+use Rattle.nova_runner.proofs.Flows.{own}
 use Rattle.nova_runner.proofs.Stored.{gives}
 
 -- the workflow of a store is the admitted one, and so is its state's
@@ -48,8 +49,11 @@ module _ (store : Held) (commits : List Commit) (s : State) (a : List Event) (st
   pub held_for : (adm : Admission) (t : ℕ) → IsOf adm s.flow → IsHeldFor adm store.catalog (current a) t (captured_in store t) s
   held_for adm t is = record {
     flow = is;
+    planned = (own s.flow stands.by.agrees.read).planned;
     reached = stands.reached;
+    current = inl (captures t);
     last = (stand_for store commits a s stands).last t;
+    newest = version_is (output_in s.flow t);
     inputs = subst (λ (w : Workflow). All (IsHeld store.catalog (current a) s) (run_reads (edges_of (task_in w t)) store.catalog t (map (newest_in store.catalog) (task_in store.flow t).inputs))) stands.flow
         (held _ 0 (task_in store.flow t).inputs);
   }

@@ -29,7 +29,10 @@ use Rattle.nova_pig_pattern.specs.Table.{AreAll, NoneBased}
 use Rattle.nova_admit.specs.Flows.{HasPattern, HavePatterns, channel_at, input_of, is_new as seen_new}
 use Rattle.nova_admit.specs.TaskPlans.{plan_of}
 use Rattle.nova_admit.specs.declared.plans.Pattern.{Pattern}
-use Rattle.nova_admit.proofs.Schemas.{has_schemas}
+use Rattle.nova_histories.specs.Planned.{IsPlannedFlow}
+use Rattle.nova_histories.proofs.Admitted.{admitted_are_planned}
+use Rattle.nova_histories.proofs.Planned.{flow_owned, wired}
+use Rattle.nova_histories.proofs.Writes.{planned_runs_keep}
 use Rattle.nova_commit.specs.Commits.{Fits, commit_bytes}
 use Rattle.nova_commit.specs.declared.commit.Commit.{Commit}
 use Rattle.nova_commit.specs.declared.commit.Commit.TheVariants as commit
@@ -41,12 +44,10 @@ use Rattle.nova_meta.specs.Wired.{IsWire, IsWiring, no_edge, no_wire}
 use Rattle.nova_machine.specs.Workflow.{TaskPlan, Workflow, channel_in, input_in, is_based, is_input, is_new, no_channel, no_input, no_plan, no_task, output_in, plan_in, schema_in, task_in}
 use Rattle.nova_machine.specs.RunLaws.{IsOwned}
 use Rattle.nova_machine.specs.Sound.{IsWired}
-use Rattle.nova_machine.proofs.Keeping.{bases_keep}
 use Rattle.nova_runner.specs.Flights.{flow_of}
 use Rattle.nova_runner.specs.Opening.{IsFirstFlow, IsFlowIn, IsNone, IsSaid}
 use Rattle.nova_runner.specs.Texts.{ArePlans, HasFlow, task_plan, workflow_of}
-use Rattle.nova_runner.specs.Workflow.{FlowsAreAdmitted, IsAdmitted, IsPlanned, edge_of, named_by, wire_of, wires_of, wiring_of}
-use Rattle.nova_runner.proofs.Admission.{Allowed, allowed}
+use Rattle.nova_runner.specs.Workflow.{FlowsAreAdmitted, IsAdmitted, edge_of, named_by, wire_of, wires_of, wiring_of}
 use Rattle.nova_runner.proofs.Texts.{short_text, of_text, text_kept}
 
 -- ---- places
@@ -80,10 +81,6 @@ wires_at (u ∷ ts) [] t long lt = absurd (omega (arith, long))
 wires_at (u ∷ ts) (p ∷ ps) zero long lt = refl
 wires_at (u ∷ ts) (p ∷ ps) (suc t) long lt = wires_at ts ps t (omega (arith, long)) (omega (arith, lt))
 
-same_new : (m : Mode) → seen_new m ≡ is_new m
-same_new mode.New = refl
-same_new mode.All = refl
-
 same_number : (m n : ℕ) → nat_eq m n ≡ true → m ≡ n
 same_number m n e = grind (arith, nat_tests)
 
@@ -94,30 +91,12 @@ both_hold : (a b : Bool) → a ≡ true → b ≡ true → (a && b) ≡ true
 both_hold true b p q = q
 both_hold false b p q = cc
 
--- no input that is read as new is written anew
-none_based : (f : Flow) (is : List Input) (k : ℕ) → NoneBased (map (input_of f) is) → is_new (slice_index_or is k no_input).mode ≡ true → (channel_at f (slice_index_or is k no_input).channel).based ≡ true → ⊥
-none_based f [] k none new based = let no : false ≡ true = new in cc
-none_based f (i ∷ is) zero none new based = none.0 (same_new i.mode ∙ new) based
-none_based f (i ∷ is) (suc k) none new based = none_based f is k none.1 new based
-
 in_time : (t : ℕ) (trigger : Trigger) → IsInTime t trigger → IfSome (named_by trigger) (λ other. other < t)
 in_time t OnData is = tt
 in_time t (Every period) is = tt
 in_time t (After task) is = is
 
 -- ---- each task has its pattern
-
-pub record HasPlan (f : Flow) (t : Task) (p : TaskPlan) : Type 0 where
-  pub pattern : Pattern
-  pub has : HasPattern f t pattern
-  pub plan : IsPlan (plan_of pattern)
-  pub is : p ≡ task_plan pattern
-
-plan_at : (f : Flow) (ts : List Task) (qs : List Pattern) (t : ℕ) → HavePatterns f ts qs → ArePlans qs → t < length ts → HasPlan f (slice_index_or ts t no_task) (slice_index_or (map task_plan qs) t no_plan)
-plan_at f [] qs t have are lt = absurd (omega (arith, lt))
-plan_at f (u ∷ ts) [] t have are lt = absurd have
-plan_at f (u ∷ ts) (q ∷ qs) zero have are lt = record { pattern = q; has = have.0; plan = are.0; is = refl }
-plan_at f (u ∷ ts) (q ∷ qs) (suc t) have are lt = plan_at f ts qs t have.1 are.1 (omega (arith, lt))
 
 counted : (f : Flow) (ts : List Task) (qs : List Pattern) → HavePatterns f ts qs → length (map task_plan qs) ≡ length ts
 counted f [] [] have = refl
@@ -131,20 +110,14 @@ module _ (text : List ℕ) (f : Flow) (qs : List Pattern) (whole : IsFlow f) (ha
   abbrev w : Workflow
   w = workflow_of text f qs
 
-  planned : length w.plans ≡ length w.tasks
-  planned = counted f f.tasks qs have
+  tasks_counted : length w.plans ≡ length w.tasks
+  tasks_counted = counted f f.tasks qs have
 
   task : (t : ℕ) → t < length f.tasks → IsTask f t (task_in w t)
   task t lt = whole.tasks t (task_in w t) (at_place f.tasks t no_task lt)
 
   channel : (c : ℕ) → c < length f.channels → IsChannel f c (channel_in w c)
   channel c lt = whole.channels c (channel_in w c) (at_place f.channels c no_channel lt)
-
-  plan : (t : ℕ) → t < length f.tasks → HasPlan f (task_in w t) (plan_in w t)
-  plan t lt = plan_at f f.tasks qs t have are lt
-
-  admission : (t : ℕ) → t < length f.tasks → Allowed f (task_in w t)
-  admission t lt = let p = plan t lt in allowed f (task_in w t) p.pattern p.has
 
   -- the task that is said to write a channel does
   written : (c t : ℕ) → writer_of f.tasks c ≡ Some t → (t < length f.tasks) × ((task_in w t).output ≡ c)
@@ -159,7 +132,7 @@ module _ (text : List ℕ) (f : Flow) (qs : List Pattern) (whole : IsFlow f) (ha
 
   wire : (t : ℕ) → t < length f.tasks → catalog.wire_at (wiring_of w) t ≡ wire_of (task_in w t) (plan_in w t)
   unfolding wiring_of
-  wire t lt = wires_at f.tasks (map task_plan qs) t planned lt
+  wire t lt = wires_at f.tasks (map task_plan qs) t tasks_counted lt
 
   writer : (c : ℕ) → c < length f.channels → catalog.writer_of (wiring_of w) c ≡ writer_of f.tasks c
   writer c lt = known c ∙ (channel c lt).writer
@@ -206,35 +179,8 @@ module _ (text : List ℕ) (f : Flow) (qs : List Pattern) (whole : IsFlow f) (ha
   shaped : (c : ℕ) → c < length w.channels → IsShape (schema_in w c)
   shaped c lt = (channel c lt).shape
 
-  owned : IsOwned w
-  owned t lt = ((task t lt).output, (channel (output_in w t) (task t lt).output).writer ∙ (task t lt).writes)
-
-  written_anew : (t : ℕ) → t < length w.tasks → is_based w (output_in w t) ≡ true
-  written_anew t lt = (channel (output_in w t) (task t lt).output).based ∙ anew (output_in w t) t (task t lt).writes ∙ (admission t lt).anew
-
-  news : IsWired w
-  news t k new = elim (in_or_past t (length f.tasks)) as (λ _. is_based w (input_in w t k).channel ≡ false) [
-    | inl lt ↦ not_based (is_based w (input_in w t k).channel) (none_based f (task_in w t).inputs k (admission t lt).none_based new)
-    | inr le ↦ absurd (let no : is_new (input_in w t k).mode ≡ false = ap (λ (u : Task). is_new (slice_index_or u.inputs k no_input).mode) (get_or_past f.tasks t no_task le) in let clash : true ≡ false = sym new ∙ no in cc)
-  ]
-    where
-      not_based : (b : Bool) → (b ≡ true → ⊥) → b ≡ false
-      not_based true never = absurd (never refl)
-      not_based false never = refl
-
-  is_planned : (t : ℕ) → t < length w.tasks → IsPlanned w t
-  is_planned t lt =
-      let p = plan t lt in
-      let schemas = has_schemas f (task_in w t) (plan_of p.pattern) p.has.plan in
-      let same : (plan_in w t).plan ≡ plan_of p.pattern = ap (λ (x : TaskPlan). x.plan) p.is in
-      record {
-        plan = subst IsPlan (sym same) p.plan;
-        key = subst HasOutputKey (sym same) p.has.key;
-        inputs = ap (λ (x : Plan). x.inputs) same ∙ schemas.inputs;
-        output = ap (λ (x : Plan). x.output) same ∙ schemas.output;
-        pattern = ap (λ (x : TaskPlan). x.pattern) p.is ∙ (admission t lt).pattern p.pattern p.has;
-        anew = written_anew t lt;
-      }
+  tasks_planned : IsPlannedFlow w
+  tasks_planned = admitted_are_planned w qs (record { flow = whole; patterns = have; plans = are; is = refl })
 
   writers_count : length (wiring_of w).writers ≡ length f.channels
   unfolding wiring_of
@@ -242,7 +188,7 @@ module _ (text : List ℕ) (f : Flow) (qs : List Pattern) (whole : IsFlow f) (ha
 
   tasks_count : length (wiring_of w).tasks ≡ length f.tasks
   unfolding wiring_of
-  tasks_count = wires_count f.tasks (map task_plan qs) planned
+  tasks_count = wires_count f.tasks (map task_plan qs) tasks_counted
 
   is_wire : (t : ℕ) → t < length f.tasks → IsWire (wiring_of w) t (wire_of (task_in w t) (plan_in w t))
   is_wire t lt =
@@ -261,7 +207,7 @@ module _ (text : List ℕ) (f : Flow) (qs : List Pattern) (whole : IsFlow f) (ha
         output = omega (arith, output, many);
         writes = writer (output_in w t) output ∙ is.writes;
         after = in_time t (task_in w t).trigger is.trigger;
-        whole = all_mapped (λ (e : Edge). e.new ≡ true → catalog.is_based (wiring_of w) e.channel ≡ false) edge_of ins no_input (λ k low new. based (slice_index_or ins k no_input).channel ∙ news t k new);
+        whole = all_mapped (λ (e : Edge). e.new ≡ true → catalog.is_based (wiring_of w) e.channel ≡ false) edge_of ins no_input (λ k low new. based (slice_index_or ins k no_input).channel ∙ wired w tasks_planned t k new);
       }
 
   wiring : IsWiring (wiring_of w)
@@ -297,26 +243,21 @@ module _ (text : List ℕ) (f : Flow) (qs : List Pattern) (whole : IsFlow f) (ha
   is_admitted short = record {
     kept = refl;
     short = short;
-    planned = planned;
+    counted = tasks_counted;
     shaped = shaped;
     based = based;
     wiring = wiring;
-    news = news;
-    owned = owned;
-    plans = is_planned;
-    runs = bases_keep w written_anew;
+    news = wired w tasks_planned;
+    owned = flow_owned w whole;
+    planned = tasks_planned;
+    runs = (planned_runs_keep w tasks_planned).1;
   }
 
 pub flows_are_admitted : FlowsAreAdmitted
 flows_are_admitted text w has =
     subst (IsAdmitted text) has.is (is_admitted text has.flow has.patterns (flows_are_whole text has.flow has.read) has.admitted has.plans (short_text text has.flow has.read))
 
--- a task that is admitted reads all of each input
-pub all_read : (w : Workflow) → HasFlow w.text w → (t : ℕ) → t < length w.tasks → AreAll (map (input_of (flow_of w)) (task_in w t).inputs)
-all_read w has = subst (λ (v : Workflow). (t : ℕ) → t < length v.tasks → AreAll (map (input_of (flow_of v)) (task_in v t).inputs)) has.is
-    (λ t lt. (admission w.text has.flow has.patterns (flows_are_whole w.text has.flow has.read) has.admitted has.plans t lt).whole)
-
--- its inputs are channels
+-- a task's inputs are channels
 pub inputs_in : (w : Workflow) → HasFlow w.text w → (t : ℕ) → t < length w.tasks → (k : ℕ) → k < length (task_in w t).inputs → (slice_index_or (task_in w t).inputs k no_input).channel < length w.channels
 inputs_in w has = subst (λ (v : Workflow). (t : ℕ) → t < length v.tasks → (k : ℕ) → k < length (task_in v t).inputs → (slice_index_or (task_in v t).inputs k no_input).channel < length v.channels) has.is
     (λ t lt k low. (task w.text has.flow has.patterns (flows_are_whole w.text has.flow has.read) has.admitted has.plans t lt).inputs k (slice_index_or (slice_index_or has.flow.tasks t no_task).inputs k no_input) (at_place (slice_index_or has.flow.tasks t no_task).inputs k no_input low))
@@ -351,7 +292,7 @@ module _ (f : Workflow) (read : HasFlow f.text f) where
 
   pub wire_known : (t : ℕ) → t < length f.tasks → catalog.wire_at (wiring_of f) t ≡ wire_of (task_in f t) (plan_in f t)
   unfolding wiring_of
-  wire_known t lt = wires_at f.tasks f.plans t own.planned lt
+  wire_known t lt = wires_at f.tasks f.plans t own.counted lt
 
   pub output_known : (t : ℕ) → t < length f.tasks → (catalog.wire_at (wiring_of f) t).output ≡ output_in f t
   output_known t lt = ap (λ (x : Wire). x.output) (wire_known t lt)
@@ -372,12 +313,12 @@ unfolding wiring_of
 few_tasks w read =
     let is = flows_are_admitted w.text w read in
     let few = is.wiring.few_tasks in
-    let same = wires_count w.tasks w.plans is.planned in
+    let same = wires_count w.tasks w.plans is.counted in
     omega (arith, few, same)
 
 pub tasks_known : (w : Workflow) → HasFlow w.text w → length (wiring_of w).tasks ≡ length w.tasks
 unfolding wiring_of
-tasks_known w read = wires_count w.tasks w.plans (flows_are_admitted w.text w read).planned
+tasks_known w read = wires_count w.tasks w.plans (flows_are_admitted w.text w read).counted
 
 -- ---- of a commit
 

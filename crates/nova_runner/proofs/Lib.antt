@@ -1,9 +1,7 @@
 pub mod Texts
-pub mod Admission
 pub mod Planned
 pub mod Flows
 pub mod Flights
-pub mod Fitting
 pub mod Deciding
 pub mod Putting
 pub mod Loading

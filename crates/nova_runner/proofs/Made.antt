@@ -124,7 +124,7 @@ module _ (text : List ℕ) (w : Workflow) (read : HasFlow text w) where
     later = [];
     begins = ap (λ (t : List ℕ). let cs : List Commit = commit.Flow t ∷ [] in cs) (sym admitted.kept);
     catalog = one_commit;
-    same = like_start w text admitted.planned ∙ ap sketch (sym (start_rests w));
+    same = like_start w text admitted.counted ∙ ap sketch (sym (start_rests w));
   }
 
   pub stands_first : (files : Files) → IsMark files (Some 0) → IsLog (commit_bytes (commit.Flow text) ∷ []) (files (journal_file 0)) → StandsBy 0 (commit.Flow text ∷ []) first files (ended (start w))

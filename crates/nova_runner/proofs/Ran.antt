@@ -26,7 +26,7 @@ use Rattle.nova_runner.specs.Committing.{Added, Adds, AreSpare, Breaks, IsReady,
 use Rattle.nova_runner.specs.Held.{Held}
 use Rattle.nova_runner.specs.Readable.{IsKept}
 use Rattle.nova_runner.specs.Runs.{IsRunReady, read_stop, run_commit}
-use Rattle.nova_runner.specs.Steps.{AsksRun, BrokeOff, Done, IsLeft, IsShortLog, LosesNone, NoRoom, Stopped, StoreStands, why_of}
+use Rattle.nova_runner.specs.Steps.{AsksRun, BrokeOff, Done, IsLeft, IsShortLog, IsStopFull, LosesNone, NoRoom, Stopped, StoreStands, why_of}
 use Rattle.nova_runner.specs.Workflow.{wiring_of}
 use Rattle.nova_runner.specs.declared.ready.Fresh.{Fresh}
 use Rattle.nova_runner.specs.declared.ready.Ready.{Ready}
@@ -40,6 +40,12 @@ use Rattle.nova_runner.proofs.Running.{runs_lead}
 -- a commit of a block of another size touches the same files
 pub touched_same : (store : Held) (t z : ℕ) (a b : List Event) → Touched store (run_commit store t z) a b → Touched store (run_commit store t 0) a b
 touched_same store t z a b is = record { others = is.others; silent = is.silent }
+
+-- inputs that weren't read are never want of room
+pub not_full : (store : Held) (fault : BlockFault) → IsStopFull (read_stop store fault) → ⊥
+not_full store block.Disk full = full
+not_full store (block.Damaged file at) full = full
+not_full store block.NoMemory full = full
 
 pub untouched : (store : Held) (own : Commit) (a b : List Event) → b ≡ a → Touched store own a b
 untouched store own a b same = subst (λ (h : List Event). Touched store own a h) (sym same) (record { others = λ n free. refl; silent = refl })

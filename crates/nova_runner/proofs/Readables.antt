@@ -1,5 +1,5 @@
 -- Catalogs of commits in order are readable.
-use Rattle.std.proofs.Common.{◌≡◌, inl, inr, ℕ, ◌<◌, ◌^◌, Bool, true, false, List, [], ◌∷◌, length, Some, None, refl, ap, sym, ◌∙◌, arith, if◌then◌else◌}
+use Rattle.std.proofs.Common.{◌≡◌, inl, inr, ℕ, ◌<◌, ◌^◌, Bool, true, false, List, [], ◌∷◌, length, Some, None, refl, ap, sym, ◌∙◌, subst, arith, if◌then◌else◌}
 use Rattle.std.specs.List.{AllByRecursion}
 use Rattle.nova_path.specs.Lists.{IsOneOf}
 use Rattle.nova_path.specs.declared.interval.Interval.{Interval}
@@ -10,6 +10,7 @@ use Rattle.nova_commit.specs.declared.commit.Commit.{Commit}
 use Rattle.nova_commit.specs.declared.commit.Commit.TheVariants as commit
 use Rattle.nova_meta.specs.declared.wiring.Wiring.{Wiring}
 use Rattle.nova_meta.proofs.Allowed.{and_both}
+use Rattle.nova_meta.specs.Sound.{IsSound}
 use Rattle.nova_meta.proofs.Sound.{catalogs_are_sound}
 use Rattle.nova_meta.proofs.Numbered.{blocks_are_numbered}
 use Rattle.std.proofs.lemmas.List.{length-map}
@@ -31,13 +32,8 @@ readable w commits cat wired is =
     record {
       below = λ p named. numbered.below p.content p.block p.size named;
       numbered = λ c. all_one (λ (x : Interval). x.block < 2 ^ 62) (shelf_at cat c).intervals (λ x one. let lt = numbered.below (Channel c x.from x.to) x.block x.size one in let most = sound.bounded.next in omega (arith, lt, most));
-      whole = sound.hops.whole;
-      next = sound.bounded.next;
-      shelved = sound.shelved;
-      many = sound.entered.channels;
+      sound = subst (λ (v : Wiring). IsSound v cat) (sym sound.same) sound;
       timely = timely w commits cat is;
-      versions = sound.bounded.versions;
-      runs = sound.bounded.runs;
     }
 
 pub wired : (w : Wiring) (commits : List Commit) (cat : Entered) → IsWiring w → catalog_of w commits ≡ Some cat → cat.wiring ≡ w
@@ -74,7 +70,7 @@ same_count f = length-map f.channels (λ (x : FlowChannel). x.writer)
 
 pub in_range : (held : Held) (c : ℕ) → IsKept held → c < length held.flow.channels → c < length held.catalog.channels
 in_range held c kept lt =
-    let many = kept.readable.many in
+    let many = kept.readable.sound.entered.channels in
     let same = ap (λ (w : Wiring). length w.writers) kept.wired in
     let long = same_count held.flow in
     omega (arith, lt, many, same, long)

@@ -1,14 +1,15 @@
 -- What a store asks of a run's commit.
 use Rattle.std.proofs.Common.{◌≡◌, ◌≢◌, inl, inr, ℕ, zero, suc, ◌+◌, ◌<◌, ◌≤◌, ◌^◌, ◌==◌, Bool, true, false, not, ◌&&◌, ◌||◌, List, [], ◌∷◌, ◌++◌, length, map, Option, Some, None, refl, ap, sym, ◌∙◌, subst, arith, sum_by, if◌then◌else◌}
-use Rattle.std.specs.Prelude.{nat_lt, nat_le, slice_index_or}
+use Rattle.std.specs.Prelude.{is_some, nat_lt, nat_le, slice_index_or}
 use Rattle.std.specs.List.{AllByRecursion}
 use Rattle.std.proofs.lemmas.Bool.Decides.{nat_tests}
 use Rattle.std.proofs.lemmas.List.{length-set}
 use Rattle.nova_path.specs.Lists.{IsOneOf}
-use Rattle.nova_path.specs.Shelf.{Span, HasPath}
-use Rattle.nova_path.specs.Intervals.{size_of, spans}
+use Rattle.nova_path.specs.Shelf.{chosen_path}
+use Rattle.nova_path.specs.Intervals.{size_of, spans, weight_in}
 use Rattle.nova_path.specs.declared.interval.Interval.{Interval}
-use Rattle.nova_path.proofs.Paths.{path_append, path_grows}
+use Rattle.nova_path.proofs.Room.{rises_from}
+use Rattle.nova_path.proofs.Weights.{none_is_no_path}
 use Rattle.nova_workflow.specs.declared.flow.Flow.{Flow}
 use Rattle.nova_workflow.specs.declared.flow.Input.{Input}
 use Rattle.nova_workflow.specs.declared.flow.Task.{Task}
@@ -28,8 +29,9 @@ use Rattle.nova_meta.specs.Named.{Channel, Content, Names, State as StatePart}
 use Rattle.nova_meta.specs.Shelves.{IsShelved}
 use Rattle.nova_meta.specs.Wired.{is_based, wire_at}
 use Rattle.nova_meta.proofs.Allowed.{and_both}
+use Rattle.nova_meta.proofs.Sound.{sound_step}
 use Rattle.nova_meta.proofs.Shelved.{next_kept, placed_all}
-use Rattle.nova_machine.specs.Workflow.{Workflow, is_new, output_in, task_in}
+use Rattle.nova_machine.specs.Workflow.{is_new, no_input}
 use Rattle.nova_machine.specs.State.{Capture, with_span}
 use Rattle.nova_machine.proofs.Growth.{at_set}
 use Rattle.nova_machine.proofs.Shelves.{shelved, shelve_more}
@@ -70,17 +72,33 @@ in_time cat t trigger after is late =
     three true false c p q r = cc
     three true true false p q r = cc
 
-sees : (f : Flow) (cat : Entered) (last : Option Captured) (k : ℕ) (is : List Input) → AreAll (map (input_of f) is) → may_see_all cat last k (map edge_of is) (map (newest_in cat) is) ≡ true
-sees f cat last k [] all = refl
-sees f cat last k (i ∷ is) all =
-    two (nat_le (newest_in cat i) (newest_in cat i)) (is_new i.mode) (nat_le (captured last k) (newest_in cat i) && leads (shelf_at cat i.channel).intervals (newest_in cat i) (newest_in cat i)) (may_see_all cat last (suc k) (map edge_of is) (map (newest_in cat) is))
-    (low_itself (newest_in cat i)) (sym (same_new i.mode) ∙ all.0) (sees f cat last (suc k) is all.1)
+-- a path from a version to itself is found
+leads_nowhere : (s : Shelved) → IsShelved s → (n : ℕ) → leads s.intervals n n ≡ true
+leads_nowhere s is n = elim (chosen_path (weight_in s.intervals) (spans s.intervals) n n) as (λ o. chosen_path (weight_in s.intervals) (spans s.intervals) n n ≡ o → is_some o ≡ true) [
+  | None ↦ λ none. absurd ((none_is_no_path (weight_in s.intervals) (spans s.intervals) (rises_from s.intervals is.rise) n n).0 none ([], refl))
+  | Some path ↦ λ _. refl
+] refl
+
+sees : (cat : Entered) → ((c : ℕ) → IsShelved (shelf_at cat c)) → (last : Option Captured) (k : ℕ) (is : List Input) → ((j : ℕ) → j < length is → is_new (slice_index_or is j no_input).mode ≡ true → captured last (k + j) ≤ newest_in cat (slice_index_or is j no_input))
+    → may_see_all cat last k (map edge_of is) (map (newest_in cat) is) ≡ true
+sees cat shelved last k [] there = refl
+sees cat shelved last k (i ∷ is) there =
+    two (nat_le (newest_in cat i) (newest_in cat i)) (is_new i.mode) (nat_le (captured last k) (newest_in cat i)) (leads (shelf_at cat i.channel).intervals (newest_in cat i) (newest_in cat i)) (may_see_all cat last (suc k) (map edge_of is) (map (newest_in cat) is))
+    (low_itself (newest_in cat i)) low (leads_nowhere (shelf_at cat i.channel) (shelved i.channel) (newest_in cat i)) (sees cat shelved last (suc k) is rest)
   where
-    two : (a n x r : Bool) → a ≡ true → n ≡ false → r ≡ true → ((a && (not n || x)) && r) ≡ true
-    two true false x true p q s = refl
-    two false n x r p q s = cc
-    two true true x r p q s = cc
-    two true false x false p q s = cc
+    low : is_new i.mode ≡ true → nat_le (captured last k) (newest_in cat i) ≡ true
+    low new = let here : k + 0 ≡ k = omega arith in let le = subst (λ n. captured last n ≤ newest_in cat i) here (there 0 (omega arith) new) in grind (arith, nat_tests)
+
+    rest : (j : ℕ) → j < length is → is_new (slice_index_or is j no_input).mode ≡ true → captured last (suc k + j) ≤ newest_in cat (slice_index_or is j no_input)
+    rest j low new = let next : k + suc j ≡ suc k + j = omega arith in subst (λ n. captured last n ≤ newest_in cat (slice_index_or is j no_input)) next (there (suc j) (omega (arith, low)) new)
+
+    two : (a n x y r : Bool) → a ≡ true → (n ≡ true → x ≡ true) → y ≡ true → r ≡ true → ((a && (not n || (x && y))) && r) ≡ true
+    two true false x y true p q v s = refl
+    two true true true true true p q v s = refl
+    two true true false y r p q v s = let no : false ≡ true = q refl in absurd cc
+    two true true true false r p q v s = absurd cc
+    two false n x y r p q v s = absurd cc
+    two true n x y false p q v s = absurd cc
 
 -- ---- only room keeps it out
 
@@ -103,23 +121,27 @@ no_parts : (stateful : Bool) → may_have_parts stateful [] ≡ true
 no_parts true = refl
 no_parts false = refl
 
--- what the store knows of a task: its wire, and that it reads all of each input
-pub record IsRunTask (f : Flow) (cat : Entered) (task : Task) (t : ℕ) : Type 0 where
+-- what the store knows of a task: its wire, and that no cursor is above the newest version
+pub record IsRunTask (cat : Entered) (task : Task) (t : ℕ) : Type 0 where
   pub begun : cat.begun ≡ true
   pub there : t < length cat.tasks
   pub inputs : (wire_at cat.wiring t).inputs ≡ map edge_of task.inputs
   pub after : (wire_at cat.wiring t).after ≡ named_by task.trigger
-  pub whole : AreAll (map (input_of f) task.inputs)
+  pub shelved : (c : ℕ) → IsShelved (shelf_at cat c)
+  pub behind : (k : ℕ) → k < length task.inputs → is_new (slice_index_or task.inputs k no_input).mode ≡ true → captured (progress_at cat t).last k ≤ newest_in cat (slice_index_or task.inputs k no_input)
   pub late : last_moment (progress_at cat t).last ≤ cat.moment
 
-pub run_rules : (f : Flow) (cat : Entered) (task : Task) (t size : ℕ) → IsRunTask f cat task t → allows cat (own_run cat t (capture_in (captured_of cat task)) size) ≡ has_room cat (own_run cat t (capture_in (captured_of cat task)) size)
-run_rules f cat task t size is =
+pub run_rules : (cat : Entered) (task : Task) (t size : ℕ) → IsRunTask cat task t → allows cat (own_run cat t (capture_in (captured_of cat task)) size) ≡ has_room cat (own_run cat t (capture_in (captured_of cat task)) size)
+run_rules cat task t size is =
     let c = (wire_at cat.wiring t).output in
     only_room cat.begun (is_task cat t) (is_timely cat t cat.moment (runs_named cat task.trigger)) (cat.next == cat.next) (may_have_parts (wire_at cat.wiring t).stateful []) (may_parts 0 (cat.next + 1) [])
     (may_see_all cat (progress_at cat t).last 0 (wire_at cat.wiring t).inputs (map (newest_in cat) task.inputs))
     (nat_le (total (shelf_at cat c) + size) bound) (may_rise (shelf_at cat c).version) (may_rise (progress_at cat t).runs) (may_rise (cat.next + 0))
     is.begun (let lt = is.there in grind (arith, nat_tests)) (in_time cat t task.trigger (wire_at cat.wiring t).after is.after is.late) (equal_itself cat.next) (no_parts (wire_at cat.wiring t).stateful) refl
-    (ap (λ es. may_see_all cat (progress_at cat t).last 0 es (map (newest_in cat) task.inputs)) is.inputs ∙ sees f cat (progress_at cat t).last 0 task.inputs is.whole)
+    (ap (λ es. may_see_all cat (progress_at cat t).last 0 es (map (newest_in cat) task.inputs)) is.inputs ∙ sees cat is.shelved (progress_at cat t).last 0 task.inputs behind)
+  where
+    behind : (j : ℕ) → j < length task.inputs → is_new (slice_index_or task.inputs j no_input).mode ≡ true → captured (progress_at cat t).last (0 + j) ≤ newest_in cat (slice_index_or task.inputs j no_input)
+    behind j low new = let same : j ≡ 0 + j = omega arith in subst (λ n. captured (progress_at cat t).last n ≤ newest_in cat (slice_index_or task.inputs j no_input)) same (is.behind j low new)
 
 -- what a catalog names behind a run's commit is below its next number again
 pub below_run : (cat : Entered) (t : ℕ) (run : Capture) (size : ℕ) → ((p : Piece) → IsNamed cat p → p.block < cat.next) → (w : Content) (b z : ℕ) → Names (applied cat (own_run cat t run size)) w b z → b < cat.next + 1
@@ -161,8 +183,8 @@ module _ (cat : Entered) (t : ℕ) (run : Capture) (size : ℕ) (room : has_room
       let is : nat_le (total (shelf_at cat out) + size) bound ≡ true = (and_both (nat_le (total (shelf_at cat out) + size) bound) _ room).0 in
       grind (arith, nat_tests)
 
-  pub run_readable : run.moment ≤ cat.moment → IsReadable cat → IsReadable (applied cat (own_run cat t run size))
-  run_readable late is =
+  pub run_readable : run.moment ≤ cat.moment → allows cat (own_run cat t run size) ≡ true → IsReadable cat → IsReadable (applied cat (own_run cat t run size))
+  run_readable late allowed is =
       let low = run_low in
       let based = is_based cat.wiring out in
       let sh = shelf_at cat out in
@@ -170,29 +192,9 @@ module _ (cat : Entered) (t : ℕ) (run : Capture) (size : ℕ) (room : has_room
         below = λ p named. let lt = below_run cat t run size is.below p.content p.block p.size named in omega (arith, lt);
         numbered = at_set (λ n (k : Shelved). AreNumbered k.intervals) cat.channels out (next_shelf based sh cat.next size) nothing_shelved is.numbered
             (placed_all (λ (x : Interval). x.block < 2 ^ 62) (interval_of (if based then 0 else sh.version) (sh.version + 1) cat.next size) sh.intervals low (is.numbered out));
-        whole = at_set (λ n (k : Shelved). HasPath (spans k.intervals) 0 k.version) cat.channels out (next_shelf based sh cat.next size) nothing_shelved is.whole (longer sh based (is.shelved out).low cat.next size (is.whole out));
-        next = omega (arith, low);
-        shelved = at_set (λ n (k : Shelved). IsShelved k) cat.channels out (next_shelf based sh cat.next size) nothing_shelved is.shelved (next_kept based sh cat.next size (is.shelved out) run_fit);
-        many = length-set cat.channels out (next_shelf based sh cat.next size) ∙ is.many;
+        sound = sound_step cat.wiring cat (own_run cat t run size) is.sound allowed;
         timely = at_set (λ n (p : Progress). last_moment p.last ≤ cat.moment) cat.tasks t (next_progress (progress_at cat t) run.versions run.moment run.seen []) no_run is.timely late;
-        versions = at_set (λ n (k : Shelved). k.version ≤ 2 ^ 62) cat.channels out (next_shelf based sh cat.next size) nothing_shelved is.versions (let up = run_rise in omega (arith, up));
-        runs = at_set (λ n (p : Progress). p.runs ≤ 2 ^ 62) cat.tasks t (next_progress (progress_at cat t) run.versions run.moment run.seen []) no_run is.runs (let up = runs_rise in omega (arith, up));
       }
-    where
-      -- by the new block alone where it is from 0, else behind the path that was there
-      led : (sh : Shelved) (based : Bool) (x : Span) → x ≡ record { from = if based then 0 else sh.version; to = sh.version + 1 } → HasPath (spans sh.intervals) 0 sh.version → HasPath (with_span x (spans sh.intervals)) 0 (sh.version + 1)
-      led sh true x is path = (x ∷ [], (shelved x (spans sh.intervals), ap (λ (y : Span). y.from) is, ap (λ (y : Span). y.to) is))
-      led sh false x is path = (
-        path.0 ++ x ∷ [],
-        path_append (with_span x (spans sh.intervals)) 0 sh.version (sh.version + 1) path.0 (x ∷ [])
-            (path_grows (spans sh.intervals) (with_span x (spans sh.intervals)) (shelve_more x (spans sh.intervals)) 0 sh.version path.0 path.1)
-            (shelved x (spans sh.intervals), ap (λ (y : Span). y.from) is, ap (λ (y : Span). y.to) is),
-      )
-
-      longer : (sh : Shelved) (based : Bool) → AllByRecursion (λ (y : Interval). y.to ≤ sh.version) sh.intervals → (b z : ℕ) → HasPath (spans sh.intervals) 0 sh.version → HasPath (spans (placed (interval_of (if based then 0 else sh.version) (sh.version + 1) b z) sh.intervals)) 0 (sh.version + 1)
-      longer sh based low b z path =
-          subst (λ ss. HasPath ss 0 (sh.version + 1)) (sym (spans_placed (interval_of (if based then 0 else sh.version) (sh.version + 1) b z) sh.intervals sh.version low (omega arith)))
-          (led sh based (record { from = if based then 0 else sh.version; to = sh.version + 1 }) refl path)
 
   pub run_spare : (fresh : Fresh) → IsReadable cat → fresh.block ≡ cat.next → AreSpare cat (own_run cat t run size) (fresh ∷ [])
   run_spare fresh is number = record {

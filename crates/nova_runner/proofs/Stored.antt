@@ -32,7 +32,7 @@ use Rattle.nova_runner.specs.Files.{IsStored, Piece}
 use Rattle.nova_runner.specs.Laws.{IsBlockOrLost, NoLossIsKept, StoredIsNotLost}
 use Rattle.nova_runner.specs.Stands.{Drawn, IsLost, StandsBut, StandsBy, drawn_kept, drawn_shelved}
 use Rattle.nova_runner.specs.Workflow.{wiring_of}
-use Rattle.nova_runner.proofs.Fitting.{blocks_are_deltas}
+use Rattle.nova_histories.proofs.Tables.{blocks_are_deltas}
 use Rattle.nova_runner.proofs.Flows.{own, shaped_in, well_wired}
 use Rattle.nova_runner.proofs.Loading.{drawings, drawn_at}
 
@@ -68,7 +68,7 @@ module _ (x : ℕ) (commits : List Commit) (cat : Entered) (files : Files) (s : 
   stored_is_read c y one is =
       let below = let lt = in_shelves cat.channels c y one in let same = lengths in let all : c < length s.flow.channels = omega (arith, lt, same) in all in
       let shape = shaped_in s.flow by.agrees.read c below in
-      let delta = blocks_are_deltas s s.flow.text reached (own s.flow by.agrees.read) c shape y.from y.to in
+      let delta = blocks_are_deltas s (own s.flow by.agrees.read).planned reached c y.from y.to in
       let few = three_bytes_each (block_at s c y.from y.to) shape delta in
       let room = ((catalogs_are_sound (wiring_of s.flow) commits cat (well_wired s.flow by.agrees.read) by.agrees.catalog.is).shelved c).room in
       let size = within (shelf_at cat c).intervals y one in

@@ -66,13 +66,14 @@ pub tick_readable : (cat : Entered) (m : ℕ) → cat.moment ≤ m → IsReadabl
 tick_readable cat m later is = record {
   below = λ p named. is.below p (named_same cat m p.content p.block p.size named);
   numbered = is.numbered;
-  whole = is.whole;
-  next = is.next;
-  many = is.many;
-  shelved = is.shelved;
+  sound = record {
+    same = refl;
+    entered = record { wiring = is.sound.entered.wiring; channels = is.sound.entered.channels; tasks = is.sound.entered.tasks };
+    shelved = is.sound.shelved;
+    hops = record { whole = is.sound.hops.whole; news = is.sound.hops.news };
+    bounded = record { next = is.sound.bounded.next; versions = is.sound.bounded.versions; runs = is.sound.bounded.runs };
+  };
   timely = λ t. let before = is.timely t in omega (arith, before, later);
-  versions = is.versions;
-  runs = is.runs;
 }
 
 pub tick_kept : (store : Held) (m : ℕ) (journal : Extent) (cat : Entered) → IsKept store → store.catalog.moment ≤ m → cat ≡ applied store.catalog (commit.Tick m) → IsKept (record { journal = journal; flow = store.flow; catalog = cat; flight = store.flight })

@@ -11,6 +11,7 @@ use Rattle.nova_commit.specs.Commits.{commit_bytes}
 use Rattle.nova_meta.specs.Catalog.{Entered, applied, bound, progress_at, shelf_at, total}
 use Rattle.nova_meta.specs.Named.{Channel}
 use Rattle.nova_meta.specs.declared.wiring.Edge.{Edge}
+use Rattle.nova_meta.specs.Sound.{cursor_at, edge_at}
 use Rattle.nova_meta.specs.Wired.{wire_at}
 use Rattle.nova_commit.specs.declared.commit.PartFile.{PartFile}
 use Rattle.nova_commit.specs.declared.commit.Commit.{Commit}
@@ -30,6 +31,10 @@ own_run cat t run size = commit.Run t run.versions run.moment run.seen cat.next 
 -- what a run of a task reads that captures what is newest
 abbrev pub newest_reads : Entered → ℕ → List Read
 newest_reads cat t = run_reads (wire_at cat.wiring t).inputs cat t (map (λ (e : Edge). (shelf_at cat e.channel).version) (wire_at cat.wiring t).inputs)
+
+-- where a read of a channel begins: at version 0, or where a task's NEW input of it stands
+abbrev pub IsHop : Entered → ℕ → ℕ → Type 0
+IsHop cat c from = (from ≡ 0) ⊎ ((t : ℕ) × (k : ℕ) × ((edge_at cat t k).new ≡ true) × ((edge_at cat t k).channel ≡ c) × (from ≡ cursor_at cat t k))
 
 -- the commit that a step adds from a state with this catalog, or none where it adds none
 abbrev pub own_commit : Entered → State → Step → Option Commit
@@ -56,7 +61,7 @@ load_block cat c d = record { schema = d.schema; entries = if (shelf_at cat c).v
 abbrev pub load_commit : Entered → ℕ → DeltaValue → Commit
 load_commit cat c d = commit.Load c cat.next (length (spelling_of (load_block cat c d)))
 
--- how many bytes of blocks it reads at most
+-- how many bytes of blocks it reads at most; what the commands read that aren't built yet comes with them
 abbrev pub read_size : Entered → Step → ℕ
 read_size cat (Show c) = route_size (shelf_at cat c).intervals 0 (shelf_at cat c).version
 read_size cat (Run t) = reads_size cat (newest_reads cat t)
@@ -72,7 +77,7 @@ read_size cat Collect = 0
 read_size cat (Blocks c) = 0
 read_size cat (Refused refusal) = 0
 
--- the file and the place that it finds damaged: those of the first block that it reads which is none
+-- the file and the place that it finds damaged: those of the first block that it reads which is none; so it is with the commands that aren't built yet
 abbrev pub IsStepDamage : Workflow → Entered → Files → Step → ℕ → ℕ → Type 0
 IsStepDamage flow cat files (Show c) file at = IsDamage (schema_in flow c) files (shelf_at cat c).intervals 0 (shelf_at cat c).version file at
 IsStepDamage flow cat files (Run t) file at = IsReadDamage flow.channels cat files (newest_reads cat t) file at

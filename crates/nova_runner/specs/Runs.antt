@@ -1,5 +1,5 @@
 -- A run of a store.
-use Rattle.std.specs.Prelude.{◌≡◌, ◌&&◌, nat_lt, ℕ, Bool, false, List, [], ◌∷◌, length, Option, Some, None, IsTrue}
+use Rattle.std.specs.Prelude.{◌≡◌, ◌⊎◌, ◌&&◌, nat_lt, ℕ, Bool, false, List, [], ◌∷◌, length, Option, Some, None, IsTrue}
 use Rattle.nova_outside.specs.Disk.{Files}
 use Rattle.nova_outside.specs.History.{Event}
 use Rattle.nova_delta.specs.Merge.{DeltaValue}
@@ -18,12 +18,15 @@ use Rattle.nova_machine.specs.State.{State}
 use Rattle.nova_machine.specs.Due.{capture_of}
 use Rattle.nova_machine.specs.Steps.{Run}
 use Rattle.nova_trigger.specs.Due.{capture_in, captured_of}
+use Rattle.nova_admit.specs.Flows.{Admission}
+use Rattle.nova_execution.specs.Executed.{IsExecuted}
 use Rattle.nova_execution.specs.Made.{run_block}
 use Rattle.nova_runner.specs.Acts.{IsFull, IsStepDamage, own_run}
 use Rattle.nova_runner.specs.Beginning.{captured_in}
 use Rattle.nova_runner.specs.Committing.{AreSpare, IsReady}
 use Rattle.nova_runner.specs.Held.{Held}
 use Rattle.nova_runner.specs.Steps.{StoreStands}
+use Rattle.nova_runner.specs.Texts.{workflow_of}
 use Rattle.nova_runner.specs.declared.ready.Fresh.{Fresh}
 use Rattle.nova_runner.specs.declared.ready.Ready.{Ready}
 use Rattle.nova_runner.specs.declared.stop.Stopped.{Stopped as StoppedCall}
@@ -37,9 +40,15 @@ run_commit store t size = own_run store.catalog t (capture_in (captured_in store
 abbrev pub run_counters : Entered → ℕ → Bool
 run_counters cat t = nat_lt (shelf_at cat (wire_at cat.wiring t).output).version bound && (nat_lt (progress_at cat t).runs bound && nat_lt cat.next bound)
 
--- with a block of some size it has no room
-abbrev pub RunFull : Held → ℕ → Type 0
-RunFull store t = (size : ℕ) × IsFull store.journal.length store.catalog (run_commit store t size)
+-- whatever the files stand for, it is the block that a run makes of those that they have
+abbrev pub IsGiven : Held → ℕ → Files → DeltaValue → Type 0
+IsGiven store t files d = (a : Admission) × (workflow_of store.flow.text a.flow a.patterns ≡ store.flow) × IsExecuted a store.catalog files t (captured_in store t).versions d
+
+-- it has no room whatever its block is, or none for the block that it makes
+abbrev pub RunFull : Bool → Held → ℕ → Files → Type 0
+RunFull is_honest store t files =
+    IsFull store.journal.length store.catalog (run_commit store t 0)
+    ⊎ ((d : DeltaValue) × (IsTrue is_honest → IsGiven store t files d) × IsFull store.journal.length store.catalog (run_commit store t (length (spelling_of d))))
 
 -- of each state that the store stands for it is the block of the version that the run makes there
 abbrev pub GivesRun : Bool → Held → ℕ → DeltaValue → List Event → Type 0

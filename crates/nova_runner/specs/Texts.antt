@@ -6,16 +6,13 @@ use Rattle.nova_flow.specs.Flows.{flow_of}
 use Rattle.nova_flow.specs.declared.fault.FlowFault.TheVariants as flow_fault
 use Rattle.nova_pig_algebra.specs.Plan.{IsPlan}
 use Rattle.nova_admit.specs.Flows.{Admission, HavePatterns, HasFirstFault}
-use Rattle.nova_admit.specs.TaskPlans.{plan_of, kind_of}
+use Rattle.nova_admit.specs.TaskPlans.{plan_of}
 use Rattle.nova_admit.specs.declared.plans.Pattern.{Pattern}
 use Rattle.nova_admit.specs.declared.fault.AdmitFault.TheVariants as admit_fault
-use Rattle.nova_machine.specs.Workflow.{Workflow, TaskPlan}
+use Rattle.nova_machine.specs.Workflow.{Workflow}
+pub use Rattle.nova_histories.specs.Planned.{task_plan}
 use Rattle.nova_runner.specs.declared.text.TextFault.{TextFault}
 use Rattle.nova_runner.specs.declared.text.TextFault.TheVariants as fault
-
--- the plan of a task with its pattern
-abbrev pub task_plan : Pattern → TaskPlan
-task_plan q = record { plan = plan_of q; pattern = kind_of q }
 
 -- the machine's workflow: the text, the channels and tasks that it states, and a plan for each task
 abbrev pub workflow_of : List ℕ → Flow → List Pattern → Workflow

@@ -2,29 +2,24 @@
 use Rattle.std.specs.Prelude.{◌≡◌, List, [], ◌∷◌, ℕ, ◌<◌, ◌≤◌, Bool, true, false, length, map, Option, Some, None}
 use Rattle.nova_value.specs.Rows.{IsShape}
 use Rattle.nova_workflow.specs.declared.flow.Channel.{Channel}
-use Rattle.nova_workflow.specs.declared.flow.Input.{Input}
 use Rattle.nova_workflow.specs.declared.flow.Task.{Task}
 use Rattle.nova_workflow.specs.declared.flow.Trigger.{Trigger}
 use Rattle.nova_workflow.specs.declared.flow.Trigger.TheVariants.{OnData, Every, After}
 use Rattle.nova_pig_pattern.specs.declared.task.PatternKind.{PatternKind}
 use Rattle.nova_pig_pattern.specs.declared.task.PatternKind.TheVariants.{NonIncremental, Stateless, Lookup, Stateful}
-use Rattle.nova_meta.specs.declared.wiring.Edge.{Edge}
 use Rattle.nova_meta.specs.declared.wiring.Wire.{Wire}
 use Rattle.nova_meta.specs.declared.wiring.Wiring.{Wiring}
 use Rattle.nova_meta.specs.Wired as catalog
 use Rattle.nova_meta.specs.Wired.{IsWiring}
-use Rattle.nova_pig_algebra.specs.Plan.{IsPlan}
-use Rattle.nova_pig_pattern.specs.OutputKey.{HasOutputKey}
-use Rattle.nova_machine.specs.Workflow.{Workflow, TaskPlan, is_based, is_new, output_in, plan_in, schema_in, task_in}
+use Rattle.nova_machine.specs.Workflow.{Workflow, TaskPlan, is_based, schema_in}
 use Rattle.nova_machine.specs.Sound.{IsWired}
 use Rattle.nova_machine.specs.Keeping.{RunsKeep}
 use Rattle.nova_machine.specs.RunLaws.{IsOwned}
+pub use Rattle.nova_execution.specs.Reads.{edge_of}
+use Rattle.nova_histories.specs.Planned.{IsPlannedFlow}
 use Rattle.nova_runner.specs.Texts.{HasFlow}
 
 -- ---- what a catalog knows
-
-abbrev pub edge_of : Input → Edge
-edge_of i = record { channel = i.channel; new = is_new i.mode }
 
 -- the task that a cascade names
 abbrev pub named_by : Trigger → Option ℕ
@@ -52,26 +47,17 @@ wiring_of w = record { writers = map (λ (c : Channel). c.writer) w.channels; ta
 
 -- ---- what is kept
 
--- A task's plan is one over the schemas of its channels, with the key of its output. Only tasks that make the whole of their output run yet.
-pub record IsPlanned (w : Workflow) (t : ℕ) : Type 0 where
-  pub plan : IsPlan (plan_in w t).plan
-  pub key : HasOutputKey (plan_in w t).plan
-  pub inputs : (plan_in w t).plan.inputs ≡ map (λ (i : Input). schema_in w i.channel) (task_in w t).inputs
-  pub output : (plan_in w t).plan.output ≡ schema_in w (output_in w t)
-  pub pattern : (plan_in w t).pattern ≡ NonIncremental
-  pub anew : is_based w (output_in w t) ≡ true
-
 -- What each workflow that a text says keeps. This is all that the store rests on: whichever texts are admitted, they give it.
 pub record IsAdmitted (text : List ℕ) (w : Workflow) : Type 0 where
   pub kept : w.text ≡ text
   pub short : length text ≤ 1048576
-  pub planned : length w.plans ≡ length w.tasks
+  pub counted : length w.plans ≡ length w.tasks
   pub shaped : (c : ℕ) → c < length w.channels → IsShape (schema_in w c)
   pub based : (c : ℕ) → catalog.is_based (wiring_of w) c ≡ is_based w c
   pub wiring : IsWiring (wiring_of w)
   pub news : IsWired w
   pub owned : IsOwned w
-  pub plans : (t : ℕ) → t < length w.tasks → IsPlanned w t
+  pub planned : IsPlannedFlow w
   pub runs : RunsKeep w
 
 abbrev pub FlowsAreAdmitted : Type 0

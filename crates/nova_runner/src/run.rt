@@ -1,6 +1,8 @@
 //! A run.
 ghost use Rattle.std.specs.Prelude.{◌≡◌, ◌&&◌, nat_lt, ◌+◌, ◌<◌, ◌≤◌, ℕ, true, false, length, IfOk, IfErr, IsTrue, MatchResult, OnOk};
 ghost use Rattle.nova_outside.specs.History.{current};
+ghost use Rattle.nova_delta.specs.Merge.{DeltaValue};
+ghost use Rattle.nova_row_codec.specs.Spelling.{spelling_of};
 ghost use Rattle.nova_commit.specs.Commits.{HasSpelling};
 ghost use Rattle.nova_channel.specs.Reading.{ReadCause};
 ghost use Rattle.nova_machine.specs.Workflow.{output_in, schema_in};
@@ -10,7 +12,7 @@ ghost use Rattle.nova_execution.specs.Reads.{RunTold};
 ghost use Rattle.nova_runner.specs.Acts.{IsFull, IsStepDamage, newest_reads, read_size};
 ghost use Rattle.nova_runner.specs.Beginning.{captured_in};
 ghost use Rattle.nova_runner.specs.Committing.{ReadsOn, Touched};
-ghost use Rattle.nova_runner.specs.Runs.{GivesRun, IsPreparedFor, RunFull, RunReady, StopDamage, read_stop, run_commit, run_counters};
+ghost use Rattle.nova_runner.specs.Runs.{GivesRun, IsGiven, IsPreparedFor, RunFull, RunReady, StopDamage, read_stop, run_commit, run_counters};
 ghost use Rattle.nova_runner.specs.Steps.{AsksRun, Does, InHost, IsNoFailedCall, IsStopFull, StopCause, Stops, silent, why_of};
 
 use crate::ready::{Fresh, Ready};
@@ -79,6 +81,7 @@ impl Store {
         requires in_range { task < length self.now.flow.tasks }
         requires captured { run.now ≡ captured_in self.now task }
         ensures made { IfOk result (λ d. GivesRun H.is_honest self.now task d (H.history host.old)) }
+        ensures given { IsTrue H.is_honest → IfOk result (IsGiven self.now task (current (H.history host.old))) }
         ensures told { IsTrue H.is_honest → IfErr result (RunTold self.now.flow.channels self.now.catalog (current (H.history host.old)) (newest_reads self.now.catalog task)) }
         ensures undamaged { IsTrue H.is_honest → OnOk result ((file at : ℕ) → IsStepDamage self.now.flow self.now.catalog (current (H.history host.old)) (Run task) file at → ⊥) }
         ensures cause { IfErr result (ReadCause (H.disk_faults host.old) (H.disk_faults host.new)) }
@@ -167,20 +170,22 @@ impl Store {
         ensures step { MatchResult result
             (λ made. Does H.is_honest (AsksRun task) silent self made.0 (H.history host.old) (H.history host.new))
             (λ stop. Stops (why_of stop) H.is_honest (AsksRun task) self (H.history host.old) (H.history host.new)) }
-        // Whatever the files stand for: it changes only what its commit names, and the journal has the commit, of a block of some size.
-        ensures read { IfOk result (λ made. (size : ℕ) × ReadsOn H.is_honest self made.0 (run_commit self task size) (H.history host.old) (H.history host.new)) }
+        // Whatever the files stand for: it changes only what its commit names, and the journal has the commit, of the block that the task makes of those that the files have.
+        ensures read { IfOk result (λ made. (d : DeltaValue) × (IsTrue H.is_honest → IsGiven self task (current (H.history host.old)) d) × ReadsOn H.is_honest self made.0 (run_commit self task (length (spelling_of d))) (H.history host.old) (H.history host.new)) }
         ensures touched { IsTrue H.is_honest → Touched self (run_commit self task 0) (H.history host.old) (H.history host.new) }
         ensures in_host { IfOk result (λ made. InHost H.is_honest made.0 (H.history host.new)) }
         ensures flow { IfOk result (λ made. made.0.flow ≡ self.flow) }
         ensures flight { IfOk result (λ made. made.0.flight ≡ self.flight) }
         ensures version { IfOk result (λ made. made.1 ≡ (shelf_at self.catalog (output_in self.flow task)).version + 1) }
-        // Full only where its commit has no room; where that is so whatever its block is, before any memory is taken and any file is called.
-        ensures full { IfErr result (λ stop. IsStopFull stop → RunFull self task) }
+        // Full only where its commit has no room, whatever its block is or for the one that it makes; where that is so whatever its block is, before any memory is taken and any file is called.
+        ensures full { IfErr result (λ stop. IsStopFull stop → RunFull H.is_honest self task (current (H.history host.old))) }
         ensures room { IsFull self.journal.length self.catalog (run_commit self task 0) → MatchResult result (λ made. ⊥) IsStopFull × (host.new ≡ host.old) }
         // But for a failed call the files are as they were, so a store that is handed back is in the host still.
         ensures unchanged { IfErr result (λ stop. IsNoFailedCall stop → IsTrue H.is_honest → H.history host.new ≡ H.history host.old) }
         ensures cause { IfErr result (StopCause self (H.disk_faults host.old) (H.disk_faults host.new)) }
         ensures told { IsTrue H.is_honest → IfErr result (StopDamage self task (current (H.history host.old))) }
+        // Whatever the files stand for, it is done only where each block that it read is one.
+        ensures undamaged { IsTrue H.is_honest → OnOk result ((file at : ℕ) → IsStepDamage self.flow self.catalog (current (H.history host.old)) (Run task) file at → ⊥) }
         ensures later { H.disk_faults host.old ≤ H.disk_faults host.new }
         ensures reply_faults { H.reply_faults host.new ≡ H.reply_faults host.old }
         ensures bytes_read { H.bytes_read host.new ≤ H.bytes_read host.old + read_size self.catalog (Run task) }

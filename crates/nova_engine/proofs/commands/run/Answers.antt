@@ -25,7 +25,7 @@ returns-in_ok-send-in-Ok-clause-answers g c =
 pub returns-in_ok-send-in-Ok-clause-store : goal.returns-in_ok-send-in-Ok-clause-store
 returns-in_ok-send-in-Ok-clause-store g c = record {
   in_host = read_replied _ c.in-Ok.store (g.H.Host.history c.run.new.host) (g.H.Host.history c.send.new.host) _ c.in_ok-send-in-Ok.ensures.given
-      (read_more _ c.args.store c.in-Ok.store _ (g.H.Host.history c.args.host.now) (g.H.Host.history c.run.new.host) c.in-Ok.ensures.read.1 c.requires.in_host);
+      (read_more _ c.args.store c.in-Ok.store _ (g.H.Host.history c.args.host.now) (g.H.Host.history c.run.new.host) c.in-Ok.ensures.read.2 c.requires.in_host);
   flow = c.in-Ok.ensures.flow;
 }
 

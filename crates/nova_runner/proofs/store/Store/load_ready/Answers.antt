@@ -24,8 +24,9 @@ ready-requires-clause-readable c =
     let store = c.args.self.now in
     let kept = subst IsKept c.self.view_is c.self.invariant in
     let number = c.next_block-block.ensures ∙ ap (λ (k : Held). k.catalog.next) c.self.view_is in
+    let rules = load_rules store.catalog store.flow c.args.channel c.len.result kept.read c.requires.input kept.begun (in_range store c.args.channel kept c.requires.channel) kept.wired in
     subst (λ b. has_room store.catalog (commit.Load c.args.channel b c.len.result) ≡ true → IsReadable (applied store.catalog (commit.Load c.args.channel b c.len.result))) (sym number)
-    (load_readable store.catalog store.flow c.args.channel c.len.result kept.read c.requires.input kept.wired kept.readable)
+    (λ room. load_readable store.catalog c.args.channel c.len.result kept.readable room (rules ∙ room))
 
 pub returns : goal.returns
 returns c =

@@ -36,7 +36,7 @@ returns-then-length-versions-clause-room c counted =
     let many = as_many store c.args.task kept c.requires in
     let end = c.length.ensures.is ∙ ap (λ (k : Held). k.journal.length) c.self.view_is in
     let room : store.journal.length + (54 + 8 * length run.versions) ≤ 2 ^ 62 = omega (arith, c.if-length-versions.true, few, count, many, end) in
-    not_full store.catalog c.args.task run store.journal.length (kept.readable.shelved (wire_at store.catalog.wiring c.args.task).output).room room
+    not_full store.catalog c.args.task run store.journal.length (kept.readable.sound.shelved (wire_at store.catalog.wiring c.args.task).output).room room
     (sym (counted_up store.catalog c.args.task run store.journal.length) ∙ sym c.has_counters.ensures ∙ counted)
 
 pub returns-else-length-versions-clause-full : goal.returns-else-length-versions-clause-full

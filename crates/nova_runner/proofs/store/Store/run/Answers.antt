@@ -1,4 +1,4 @@
-use Rattle.std.proofs.Common.{rules, ◌≡◌, ◌+◌, ◌<◌, ◌≤◌, refl, ap, sym, ◌∙◌, subst, false, true, length, List}
+use Rattle.std.proofs.Common.{rules, ◌≡◌, inl, inr, ◌+◌, ◌<◌, ◌≤◌, refl, ap, sym, ◌∙◌, subst, false, true, length, List}
 use Rattle.nova_outside.specs.History.{Event, current}
 use Rattle.nova_row_codec.specs.Spelling.{spelling_of}
 use Rattle.nova_machine.specs.Workflow.{Workflow}
@@ -8,8 +8,8 @@ use Rattle.nova_runner.specs.Committing.{ReadsOn, Touched}
 use Rattle.nova_runner.specs.Held.{Held}
 use Rattle.nova_runner.specs.Readable.{IsKept}
 use Rattle.nova_runner.specs.Runs.{RunReady, run_commit}
-use Rattle.nova_runner.specs.Steps.{NoRoom, Stopped, StoreStands, why_of}
-use Rattle.nova_runner.proofs.Ran.{cut_off, finished, no_room, no_room_now, not_read, short_now, touched_same}
+use Rattle.nova_runner.specs.Steps.{IsStopFull, NoRoom, Stopped, StoreStands, why_of}
+use Rattle.nova_runner.proofs.Ran.{cut_off, finished, no_room, no_room_now, not_full, not_read, short_now, touched_same}
 use Rattle.nova_runner.proofs.Tasks.{output_there}
 use Rattle.nova_runner.proofs.store.Store.run.Goals as goal
 
@@ -19,6 +19,17 @@ returns-then-not-may_run-clause-step g c honest commits s x stands asks =
     let end = c.length.ensures.is ∙ ap (λ (k : Held). k.journal.length) c.self.view_is in
     let none : c.may_run.result ≡ false = search rules in
     (refl, subst (λ n. NoRoom store s x n) (sym end) (no_room_now store c.args.task commits s x (g.H.Host.history c.args.host.now) stands asks (c.may_run.ensures.full none)))
+
+pub returns-then-not-may_run-clause-full : goal.returns-then-not-may_run-clause-full
+returns-then-not-may_run-clause-full g c stop =
+    let none : c.may_run.result ≡ false = search rules in
+    inl (c.may_run.ensures.full none)
+
+pub returns-in-Err-clause-full : goal.returns-in-Err-clause-full
+returns-in-Err-clause-full g c stop = absurd (not_full c.args.self c.in-Err.fault (subst IsStopFull c.not_read.ensures stop))
+
+pub returns-in-Ok-None-clause-full : goal.returns-in-Ok-None-clause-full
+returns-in-Ok-None-clause-full g c stop = inr (c.in-Ok.block, λ honest. c.in-Ok.ensures.given honest, subst (RunReady c.args.self c.args.task c.in-Ok.block) c.in-Ok-None.field-0-is c.in-Ok-None.ensures)
 
 pub returns-in-Err-clause-step : goal.returns-in-Err-clause-step
 returns-in-Err-clause-step g c honest commits s x stands asks =
@@ -53,10 +64,11 @@ returns-in-Ok-commit-clause-step g c honest commits s x stands asks =
 pub returns-in-Ok-commit-clause-read : goal.returns-in-Ok-commit-clause-read
 returns-in-Ok-commit-clause-read g c =
     let made = subst (RunReady c.args.self c.args.task c.in-Ok.block) c.in-Ok-Some.field-0-is c.in-Ok-Some.ensures in
-    let size = length (spelling_of c.in-Ok.block) in (
-      size,
-      λ honest. subst (λ (h : List Event). ReadsOn g.H.Host.is_honest c.args.self c.in-Ok-commit.store (run_commit c.args.self c.args.task size) h (g.H.Host.history c.commit.new.host)) (c.run_block.ensures.same honest)
-          (c.in-Ok-commit.ensures.read _ made.fits made.ready) honest,
+    let own = run_commit c.args.self c.args.task (length (spelling_of c.in-Ok.block)) in (
+      c.in-Ok.block,
+      λ honest. c.in-Ok.ensures.given honest,
+      λ honest. subst (λ (h : List Event). ReadsOn g.H.Host.is_honest c.args.self c.in-Ok-commit.store own h (g.H.Host.history c.commit.new.host)) (c.run_block.ensures.same honest)
+          (c.in-Ok-commit.ensures.read own made.fits made.ready) honest,
     )
 
 pub returns-in-Ok-commit-clause-touched : goal.returns-in-Ok-commit-clause-touched

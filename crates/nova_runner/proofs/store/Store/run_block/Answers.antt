@@ -6,9 +6,16 @@ use Rattle.nova_execution.specs.Reads.{RunTold}
 use Rattle.nova_runner.specs.Acts.{IsStepDamage, newest_reads, read_size}
 use Rattle.nova_runner.specs.Beginning.{captured_in}
 use Rattle.nova_runner.specs.Held.{Held}
-use Rattle.nova_runner.specs.Runs.{GivesRun}
-use Rattle.nova_runner.proofs.Executing.{gives_run, has_paths, one_each, size_same, told_same, whole_same}
+use Rattle.nova_runner.specs.Runs.{GivesRun, IsGiven}
+use Rattle.nova_runner.proofs.Executing.{given_run, gives_run, has_its_task, has_paths, one_each, size_same, told_same, whole_same}
 use Rattle.nova_runner.proofs.store.Store.run_block.Goals as goal
+
+pub execute-requires-clause-there : goal.execute-requires-clause-there
+execute-requires-clause-there g c =
+    let inside : Held = record { journal = c.self.inside.journal; flow = c.self.inside.flow; catalog = c.self.inside.catalog; flight = c.self.inside.flight } in
+    let run_is = c.requires.captured ∙ ap (λ (k : Held). captured_in k c.args.task) (sym c.self.view_is) in
+    let lt = subst (λ (k : Held). c.args.task < length k.flow.tasks) (sym c.self.view_is) c.requires.in_range in
+    has_its_task inside c.args.task _ _ c.admitted.ensures.same _ run_is c.self.invariant lt
 
 pub execute-requires-clause-each : goal.execute-requires-clause-each
 execute-requires-clause-each g c =
@@ -30,6 +37,13 @@ returns-clause-made g c =
     let run_is = c.requires.captured ∙ ap (λ (k : Held). captured_in k c.args.task) (sym c.self.view_is) in
     subst (λ (k : Held). IfOk c.execute.result (λ d. GivesRun _ k c.args.task d (g.H.Host.history c.args.host.now))) c.self.view_is
     (gives_run inside c.args.task _ _ c.admitted.ensures.same _ run_is _ (g.H.Host.history c.args.host.now) c.execute.result c.execute.ensures.made)
+
+pub returns-clause-given : goal.returns-clause-given
+returns-clause-given g c honest =
+    let inside : Held = record { journal = c.self.inside.journal; flow = c.self.inside.flow; catalog = c.self.inside.catalog; flight = c.self.inside.flight } in
+    let run_is = c.requires.captured ∙ ap (λ (k : Held). captured_in k c.args.task) (sym c.self.view_is) in
+    subst (λ (k : Held). IfOk c.execute.result (IsGiven k c.args.task (current (g.H.Host.history c.args.host.now)))) c.self.view_is
+    (given_run inside c.args.task _ _ c.admitted.ensures.same _ run_is (current (g.H.Host.history c.args.host.now)) c.execute.result (c.execute.ensures.given honest))
 
 pub returns-clause-told : goal.returns-clause-told
 returns-clause-told g c honest =

@@ -19,7 +19,7 @@ pub read_table-requires-clause-channel : goal.read_table-requires-clause-channel
 read_table-requires-clause-channel g c = in_range (record { journal = c.self.inside.journal; flow = c.self.inside.flow; catalog = c.self.inside.catalog; flight = c.self.inside.flight }) c.args.channel c.self.invariant (subst (λ (k : Held). c.args.channel < length k.flow.channels) (sym c.self.view_is) c.requires.channel)
 
 pub read_table-requires-clause-path : goal.read_table-requires-clause-path
-read_table-requires-clause-path g c = subst (HasPath (spans (shelf_at c.self.inside.catalog c.args.channel).intervals) 0) (sym c.version-version.ensures) (c.self.invariant.readable.whole c.args.channel)
+read_table-requires-clause-path g c = subst (HasPath (spans (shelf_at c.self.inside.catalog c.args.channel).intervals) 0) (sym c.version-version.ensures) (c.self.invariant.readable.sound.hops.whole c.args.channel)
 
 pub returns-clause-newest : goal.returns-clause-newest
 returns-clause-newest g c =
@@ -48,4 +48,4 @@ returns-clause-whole g c =
     let a = g.H.Host.history c.args.host.now in
     let inside : Held = record { journal = c.self.inside.journal; flow = c.self.inside.flow; catalog = c.self.inside.catalog; flight = c.self.inside.flight } in
     subst (λ (k : Held). IsTrue g.H.Host.is_honest → (file at : ℕ) → IsNewestDamage k c.args.channel (current a) file at → IsErr c.read_table.result) c.self.view_is
-    (table_whole g.H.Host.is_honest inside c.args.channel a c.schema.result.now c.version-version.result c.schema.ensures c.version-version.ensures c.read_table.result (c.self.invariant.readable.shelved c.args.channel).apart c.read_table.ensures.reads)
+    (table_whole g.H.Host.is_honest inside c.args.channel a c.schema.result.now c.version-version.result c.schema.ensures c.version-version.ensures c.read_table.result (c.self.invariant.readable.sound.shelved c.args.channel).apart c.read_table.ensures.reads)

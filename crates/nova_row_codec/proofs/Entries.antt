@@ -69,6 +69,9 @@ values_refuse (fault.after {k = k} {ks = ks} {fault = f} v bytes is bad) =
     ap (λ (o : Result (Value × List ℕ) CodecFault). o >>= λ a. values_at ks a.1 >>= λ b. Ok (a.0 ∷ b.0, b.1)) ((value_field k).again v bytes is)
     ∙ ap (λ (o : Result (List Value × List ℕ) CodecFault). o >>= λ b. Ok (v ∷ b.0, b.1)) (values_refuse bad)
 
+pub values_field : (ks : List Kind) → IsField (values_at ks) values_bytes (FitKinds ks) (ValuesFail ks)
+values_field ks = record { takes = values_take ks; again = values_again ks; fails = values_fail ks; refuses = λ bytes f bad. values_refuse bad }
+
 -- ---- entries
 
 -- the values after a tag, as an entry

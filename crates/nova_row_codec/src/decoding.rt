@@ -71,7 +71,8 @@ fn text_with_length(alloc: Global, bytes: &[u8]) -> Result<(Value, &[u8]), Codec
     Ok((value, rest))
 }
 
-fn value_from(alloc: Global, kind: Kind, bytes: &[u8]) -> Result<(Value, &[u8]), CodecFault>
+/// The value of this kind that the bytes begin with, and the bytes after it.
+pub fn value_from(alloc: Global, kind: Kind, bytes: &[u8]) -> Result<(Value, &[u8]), CodecFault>
     ensures { Gives (λ a. (a.0, a.1.now)) result (value_at kind bytes.now) }
 {
     match kind {
@@ -94,6 +95,24 @@ fn values_from<'a>(
     let mut rest = bytes;
     for i in 0..count {
         let (value, after) = value_from(alloc, field_kind(schema, sign, i), rest)?;
+        values.push(value)?;
+        rest = after;
+    }
+    Ok((values, rest))
+}
+
+/// The values of these kinds that the bytes begin with, and the bytes after them.
+pub fn values_of<'a>(
+    alloc: Global,
+    kinds: &[Kind],
+    bytes: &'a [u8],
+) -> Result<(Vec<Value>, &'a [u8]), CodecFault>
+    ensures { Gives (λ a. (a.0.items, a.1.now)) result (values_at kinds.now bytes.now) }
+{
+    let mut values = Vec::with_capacity(alloc, kinds.len())?;
+    let mut rest = bytes;
+    for i in 0..kinds.len() {
+        let (value, after) = value_from(alloc, kinds[i], rest)?;
         values.push(value)?;
         rest = after;
     }

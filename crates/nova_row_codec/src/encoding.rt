@@ -15,8 +15,9 @@ fn put_text(out: &mut Vec<u8>, text: &[u8]) -> Result<(), AllocError>
     out.extend_from_slice(text)
 }
 
+/// Adds the value's bytes. After a refusal what was there still stands before what was added.
 #[tactic(auto, unfolding(crate::specs::Spelling::value_bytes))]
-fn put_value(out: &mut Vec<u8>, value: &Value) -> Result<(), AllocError>
+pub fn put_value(out: &mut Vec<u8>, value: &Value) -> Result<(), AllocError>
     ensures done { OnOk result (out.new.items ≡ out.old.items ++ value_bytes value.now) }
     ensures kept { OnErr result (take (length out.old.items) out.new.items ≡ out.old.items) }
 {
@@ -26,7 +27,9 @@ fn put_value(out: &mut Vec<u8>, value: &Value) -> Result<(), AllocError>
     }
 }
 
-fn put_values(out: &mut Vec<u8>, values: &[Value]) -> Result<(), AllocError>
+/// Adds the values' bytes, one value after the other. After a refusal what was there still stands
+/// before what was added.
+pub fn put_values(out: &mut Vec<u8>, values: &[Value]) -> Result<(), AllocError>
     ensures done { OnOk result (out.new.items ≡ out.old.items ++ values_bytes values.now) }
     ensures kept { OnErr result (take (length out.old.items) out.new.items ≡ out.old.items) }
 {

@@ -8,8 +8,8 @@ mod laws;
 mod length;
 mod list;
 
-pub use decoding::decode_entry;
-pub use encoding::encode_entry;
+pub use decoding::{decode_entry, value_from, values_of};
+pub use encoding::{encode_entry, put_value, put_values};
 pub use fault::CodecFault;
 pub use laws::{blocks_are_spelled_once, entries_are_spelled_once, entries_have_three_bytes};
 pub use length::entry_length;

@@ -4,3 +4,4 @@ pub mod Admission
 pub mod Making
 pub mod RowReads
 pub mod Deriving
+pub mod Executions

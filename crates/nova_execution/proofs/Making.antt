@@ -87,7 +87,7 @@ module _ (a : Admission) (cat : Entered) (files : Files) (t : ℕ) (run : Captur
     (whole : IsFlow a.flow) (lt : t < length a.flow.tasks) (pattern : slice_get a.patterns t ≡ Some (N p)) (schemas : HasSchemas a.flow (task_at a.flow t) p)
     (anew : IsAnew a.flow (task_at a.flow t))
     (are : AreTables a.flow.channels cat files (whole_reads (task_at a.flow t).inputs run.versions) ts) where
-  made_in : (s : State) → IsHeldFor a cat files t run s → base_of (stored p ts) ≡ run_block s t (capture_in run)
+  pub made_in : (s : State) → IsHeldFor a cat files t run s → base_of (stored p ts) ≡ run_block s t (capture_in run)
   made_in s held =
       let task : task_in s.flow t ≡ task_at a.flow t = ap (λ (us : List Task). get_or us t no_task) held.flow.tasks in
       let plan : plan_in s.flow t ≡ task_plan (N p) = ap (λ (ps : List TaskPlan). get_or ps t no_plan) held.flow.plans ∙ plan_there a.patterns t (N p) pattern in

@@ -3,3 +3,4 @@ pub mod Base
 pub mod Made
 pub mod Rows
 pub mod Executed
+pub mod Laws

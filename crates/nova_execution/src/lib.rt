@@ -3,7 +3,9 @@
 
 mod base;
 mod inputs;
+mod laws;
 mod rows;
 mod runs;
 
+pub use laws::executions_are_runs;
 pub use runs::execute;

@@ -1,7 +1,7 @@
 -- Blocks, and the commit that brings them.
 use Rattle.std.specs.Prelude.{◌≡◌, ◌≢◌, ◌⊎◌, ℕ, ◌<◌, ◌≤◌, ◌+◌, ◌^◌, Bool, true, List, [], ◌∷◌, ◌++◌, length, map, Some, IsTrue}
 use Rattle.std.specs.List.{AllByRecursion}
-use Rattle.nova_outside.specs.Disk.{Only, SameOutcomes}
+use Rattle.nova_outside.specs.Disk.{Files, Only, SameOutcomes}
 use Rattle.nova_outside.specs.History.{Event, Outcome, current, replies}
 use Rattle.nova_delta.specs.Merge.{DeltaValue}
 use Rattle.nova_row_codec.specs.Spelling.{spelling_of}
@@ -59,6 +59,10 @@ IsPut h f = (current h (block_file f.block) ≡ Some f.bytes.items) × Only (Som
 
 abbrev pub ArePut : List Fresh → List Event → Type 0
 ArePut fresh h = (f : Fresh) → IsOneOf fresh f → IsPut h f
+
+-- each block's file has its bytes
+abbrev pub HaveBytes : List Fresh → Files → Type 0
+HaveBytes fresh files = (f : Fresh) → IsOneOf fresh f → files (block_file f.block) ≡ Some f.bytes.items
 
 -- a file of none of these blocks reads as before, and a crash leaves of it what it might have left
 pub record LeavesAllBut (fresh : List Fresh) (a b : List Event) : Type 0 where

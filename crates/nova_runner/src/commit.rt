@@ -2,12 +2,12 @@
 ghost use Rattle.std.specs.Prelude.{◌≡◌, ◌+◌, length, IfOk, IsTrue, MatchResult, OnOk, ◌<◌, ◌^◌};
 ghost use Rattle.std.specs.List.{AllByRecursion};
 ghost use Rattle.nova_outside.specs.Causes.{HasCause};
-ghost use Rattle.nova_outside.specs.History.{replies};
+ghost use Rattle.nova_outside.specs.History.{current, replies};
 ghost use Rattle.nova_path.specs.Lists.{IsOneOf};
 ghost use Rattle.nova_meta.specs.Catalog.{applied};
 ghost use Rattle.nova_commit.specs.Commits.{Fits};
 ghost use Rattle.nova_commit.specs.declared.commit.Commit.{Commit};
-ghost use Rattle.nova_runner.specs.Committing.{Adds, ArePut, AreSpare, Breaks, IsReady, LeavesAllBut, ReadsOn, Touched};
+ghost use Rattle.nova_runner.specs.Committing.{Adds, ArePut, AreSpare, Breaks, HaveBytes, IsReady, LeavesAllBut, ReadsOn, Touched};
 ghost use Rattle.nova_runner.specs.Steps.{InHost};
 ghost use Rattle.nova_runner.specs.declared.ready.Fresh.{Fresh};
 
@@ -47,6 +47,7 @@ impl Store {
             (λ new. (own : Commit) → IsReady self own ready → AreSpare self.catalog own fresh.now → Adds H.is_honest self new own fresh.now (H.history host.old) (H.history host.new))
             (λ _. (own : Commit) → IsReady self own ready → AreSpare self.catalog own fresh.now → Breaks H.is_honest self own fresh.now (H.history host.old) (H.history host.new)) }
         ensures read { IfOk result (λ new. (own : Commit) → Fits own → IsReady self own ready → ReadsOn H.is_honest self new own (H.history host.old) (H.history host.new)) }
+        ensures bytes { IfOk result (λ _. IsTrue H.is_honest → HaveBytes fresh.now (current (H.history host.new))) }
         ensures touched { IsTrue H.is_honest → (own : Commit) → IsReady self own ready → AreSpare self.catalog own fresh.now → Touched self own (H.history host.old) (H.history host.new) }
         ensures catalog { IfOk result (λ new. (own : Commit) → IsReady self own ready → new.catalog ≡ applied self.catalog own) }
         ensures flow { IfOk result (λ new. new.flow ≡ self.flow) }

@@ -1,10 +1,10 @@
 //! A run.
-ghost use Rattle.std.specs.Prelude.{◌≡◌, ◌&&◌, nat_lt, ◌+◌, ◌<◌, ◌≤◌, ℕ, true, false, length, IfOk, IfErr, IsTrue, MatchResult, OnOk};
+ghost use Rattle.std.specs.Prelude.{◌≡◌, ◌&&◌, nat_lt, ◌+◌, ◌<◌, ◌≤◌, ℕ, true, false, length, Some, IfOk, IfErr, IsTrue, MatchResult, OnOk};
 ghost use Rattle.nova_outside.specs.History.{current};
 ghost use Rattle.nova_delta.specs.Merge.{DeltaValue};
 ghost use Rattle.nova_row_codec.specs.Spelling.{spelling_of};
 ghost use Rattle.nova_commit.specs.Commits.{HasSpelling};
-ghost use Rattle.nova_channel.specs.Reading.{ReadCause};
+ghost use Rattle.nova_channel.specs.Reading.{ReadCause, block_file};
 ghost use Rattle.nova_machine.specs.Workflow.{output_in, schema_in};
 ghost use Rattle.nova_machine.specs.Steps.{Run};
 ghost use Rattle.nova_meta.specs.Catalog.{bound, progress_at, shelf_at};
@@ -170,8 +170,8 @@ impl Store {
         ensures step { MatchResult result
             (λ made. Does H.is_honest (AsksRun task) silent self made.0 (H.history host.old) (H.history host.new))
             (λ stop. Stops (why_of stop) H.is_honest (AsksRun task) self (H.history host.old) (H.history host.new)) }
-        // Whatever the files stand for: it changes only what its commit names, and the journal has the commit, of the block that the task makes of those that the files have.
-        ensures read { IfOk result (λ made. (d : DeltaValue) × (IsTrue H.is_honest → IsGiven self task (current (H.history host.old)) d) × ReadsOn H.is_honest self made.0 (run_commit self task (length (spelling_of d))) (H.history host.old) (H.history host.new)) }
+        // Whatever the files stand for: it changes only what its commit names, the journal has the commit, and the next block's file the block that the task makes of those that the files have.
+        ensures read { IfOk result (λ made. (d : DeltaValue) × (IsTrue H.is_honest → IsGiven self task (current (H.history host.old)) d) × ReadsOn H.is_honest self made.0 (run_commit self task (length (spelling_of d))) (H.history host.old) (H.history host.new) × (IsTrue H.is_honest → current (H.history host.new) (block_file self.catalog.next) ≡ Some (spelling_of d))) }
         ensures touched { IsTrue H.is_honest → Touched self (run_commit self task 0) (H.history host.old) (H.history host.new) }
         ensures in_host { IfOk result (λ made. InHost H.is_honest made.0 (H.history host.new)) }
         ensures flow { IfOk result (λ made. made.0.flow ≡ self.flow) }

@@ -1,6 +1,7 @@
-use Rattle.std.proofs.Common.{◌++◌, ◌∷◌, [], map, refl, sym, ◌∙◌, subst, inl, Some}
+use Rattle.std.proofs.Common.{◌++◌, ◌∷◌, [], map, refl, sym, ◌∙◌, subst, inl, Some, arith}
 use Rattle.std.proofs.lemmas.Result.{err_from_is_err_and}
 use Rattle.nova_outside.specs.History.{current}
+use Rattle.nova_channel.specs.Reading.{block_file}
 use Rattle.nova_journal.specs.Marks.{IsIn}
 use Rattle.nova_commit.specs.Commits.{commit_bytes}
 use Rattle.nova_runner.specs.Committing.{Added, AreSpare, IsReady, Leads, Touched}
@@ -31,6 +32,9 @@ returns-in-Err-clause-touched g c honest own ready spare =
     let spare_now = subst (λ (k : Held). AreSpare k.catalog own c.args.fresh.now) (sym e) spare in
     subst (λ (k : Held). Touched k own (g.H.Host.history c.args.host.now) (g.H.Host.history c.append.new.host)) e
     (touched (record { journal = c.self.inside.journal; flow = c.self.inside.flow; catalog = c.self.inside.catalog; flight = c.self.inside.flight }) own c.args.fresh.now spare_now _ _ _ (c.put_all.ensures.others honest) (c.put_all.ensures.replies honest) (c.append.ensures.others honest) (c.append.ensures.replies honest))
+
+pub returns-in-Ok-clause-bytes : goal.returns-in-Ok-clause-bytes
+returns-in-Ok-clause-bytes g c honest f is = c.in-Ok.ensures.others honest (block_file f.block) (λ e. omega (arith, e)) ∙ (c.in_ok-put_all.ensures.put honest f is).0
 
 pub returns-in-Ok-clause-adds : goal.returns-in-Ok-clause-adds
 returns-in-Ok-clause-adds g c own ready spare honest commits s t stands leads =

@@ -1,5 +1,6 @@
-use Rattle.std.proofs.Common.{rules, ◌≡◌, inl, inr, ◌+◌, ◌<◌, ◌≤◌, refl, ap, sym, ◌∙◌, subst, false, true, length, List}
+use Rattle.std.proofs.Common.{rules, ◌≡◌, inl, inr, ◌+◌, ◌<◌, ◌≤◌, refl, ap, sym, ◌∙◌, subst, false, true, length, List, Some, ℕ}
 use Rattle.nova_outside.specs.History.{Event, current}
+use Rattle.nova_channel.specs.Reading.{block_file}
 use Rattle.nova_row_codec.specs.Spelling.{spelling_of}
 use Rattle.nova_machine.specs.Workflow.{Workflow}
 use Rattle.nova_machine.specs.Steps.{Run}
@@ -69,6 +70,8 @@ returns-in-Ok-commit-clause-read g c =
       λ honest. c.in-Ok.ensures.given honest,
       λ honest. subst (λ (h : List Event). ReadsOn g.H.Host.is_honest c.args.self c.in-Ok-commit.store own h (g.H.Host.history c.commit.new.host)) (c.run_block.ensures.same honest)
           (c.in-Ok-commit.ensures.read own made.fits made.ready) honest,
+      λ honest. ap (λ (n : ℕ). current (g.H.Host.history c.commit.new.host) (block_file n)) (sym made.number)
+          ∙ c.in-Ok-commit.ensures.bytes honest c.in-Ok-Some.made.0 (inl refl) ∙ ap (λ (bs : List ℕ). Some bs) made.bytes,
     )
 
 pub returns-in-Ok-commit-clause-touched : goal.returns-in-Ok-commit-clause-touched

@@ -9,7 +9,7 @@ use Rattle.nova_machine.specs.State.{State, ended}
 use Rattle.nova_machine.specs.Steps.{Step, after, after_all}
 use Rattle.nova_machine.specs.Reachable.{AllMade, IsMade, IsReachable}
 use Rattle.nova_machine.specs.Workflow.{Workflow}
-use Rattle.nova_machine.proofs.Commanded.{commands_make_steps}
+use Rattle.nova_building.proofs.Making.{commands_make_steps}
 use Rattle.nova_machine.proofs.Ended.{ended_reachable}
 use Rattle.nova_machine.proofs.Reached.{reachable_more}
 use Rattle.nova_machine.proofs.Turns.{flow_stays}
@@ -42,7 +42,7 @@ reachable_all s (x ∷ xs) at made = reachable_all (after s x) xs (reachable_mor
 
 -- a session makes no step but those that can be made
 steps_made : (s : State) (input : List ℕ) → AllMade s (session_steps s input)
-steps_made s input = (commands_make_steps s input).1
+steps_made s input = commands_make_steps s input
 
 -- ---- from files that stood
 

@@ -10,9 +10,10 @@ use Rattle.nova_machine.specs.Lines.{lines_of, whole_lines_of}
 use Rattle.nova_machine.specs.Commands.{ended_commands}
 use Rattle.nova_machine.specs.State.{State}
 use Rattle.nova_machine.specs.Steps.{after_all}
-use Rattle.nova_machine.specs.Building.{built_steps}
+use Rattle.nova_building.specs.Building.{built_steps}
 use Rattle.nova_machine.proofs.Cuts.{has_newline-append}
-use Rattle.nova_machine.proofs.Turns.{after_all-append, built_steps-append}
+use Rattle.nova_machine.proofs.Turns.{after_all-append}
+use Rattle.nova_building.proofs.Turns.{built_steps-append}
 use Rattle.nova_runner.specs.Held.{Held}
 use Rattle.nova_runner.specs.Steps.{StoreStands, Why, NoMemory}
 use Rattle.nova_engine.specs.declared.reader.LineReader.{LineReader}

@@ -12,10 +12,10 @@ use Rattle.nova_machine.specs.Lines.{whole_lines_of}
 use Rattle.nova_machine.specs.Commands.{commands_of, ended_commands, whole_commands_of}
 use Rattle.nova_machine.specs.State.{State}
 use Rattle.nova_machine.specs.Steps.{Step, after_all}
-use Rattle.nova_machine.specs.Building.{built_steps}
+use Rattle.nova_building.specs.Building.{built_steps}
 use Rattle.nova_machine.specs.Replies.{text}
 use Rattle.nova_machine.proofs.Cuts.{whole_lines_at_end}
-use Rattle.nova_machine.proofs.Turns.{built_steps-append}
+use Rattle.nova_building.proofs.Turns.{built_steps-append}
 use Rattle.nova_runner.specs.Held.{Held}
 use Rattle.nova_engine.specs.declared.reader.LineReader.{LineReader}
 use Rattle.nova_engine.specs.declared.status.Status.{Status}

@@ -17,7 +17,7 @@ use Rattle.nova_script.proofs.Fronts.{front_decides}
 use Rattle.nova_machine.specs.Workflow.{Workflow, is_input, schema_in}
 use Rattle.nova_machine.specs.State.{State, is_in_flight}
 use Rattle.nova_machine.specs.Steps.{Step, Load, Refused as RefusedStep, Run, Show, Tick, after_all}
-use Rattle.nova_machine.specs.Building.{built_met, built_only, built_steps, is_built}
+use Rattle.nova_building.specs.Building.{built_met, built_only, built_steps, is_built}
 use Rattle.nova_machine.specs.Commands.{around, bad_row, load_steps, loaded_channel, loaded_steps, met_steps, read_rows, rows_for}
 use Rattle.nova_machine.proofs.Commanded.{begins}
 use Rattle.nova_runner.specs.Around.{around_held}

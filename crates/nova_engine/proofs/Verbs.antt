@@ -14,7 +14,7 @@ use Rattle.nova_script.specs.declared.forms.Verb.{Verb}
 use Rattle.nova_script.specs.declared.forms.Verb.TheVariants as v
 use Rattle.nova_script.specs.declared.refusal.Refusal.{Refusal}
 use Rattle.nova_script.specs.declared.refusal.Refusal.TheVariants.{ClockBack, InFlight, LineTooLong, NotAnInputChannel, UnknownChannel, UnknownTask}
-use Rattle.nova_machine.specs.Building.{built_met, built_only}
+use Rattle.nova_building.specs.Building.{built_met, built_only}
 use Rattle.nova_machine.proofs.Commanded.{Within, within}
 use Rattle.nova_engine.specs.Loading.{AreMet, IsLoadMet, IsMet}
 

@@ -14,7 +14,7 @@ use Rattle.nova_machine.specs.Workflow.{is_input, schema_in}
 use Rattle.nova_machine.specs.State.{State}
 use Rattle.nova_machine.specs.Steps.{load_delta}
 use Rattle.nova_machine.specs.Commands.{around, bad_row, loaded_channel, read_rows, rows_for}
-use Rattle.nova_machine.specs.Building.{built_met}
+use Rattle.nova_building.specs.Building.{built_met}
 use Rattle.nova_runner.specs.Around.{around_held}
 use Rattle.nova_runner.specs.Held.{Held}
 use Rattle.nova_engine.specs.declared.load.Pending.{Pending}

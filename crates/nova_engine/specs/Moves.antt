@@ -7,7 +7,7 @@ use Rattle.nova_script.specs.Forms.{kept}
 use Rattle.nova_script.specs.Session.{Item}
 use Rattle.nova_machine.specs.State.{State}
 use Rattle.nova_machine.specs.Steps.{after_all}
-use Rattle.nova_machine.specs.Building.{built_steps}
+use Rattle.nova_building.specs.Building.{built_steps}
 use Rattle.nova_runner.specs.Held.{Held}
 use Rattle.nova_runner.specs.Steps.{StoreStands, Why}
 use Rattle.nova_engine.specs.Loading.{HoldsPending, Loading}

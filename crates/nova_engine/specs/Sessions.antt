@@ -10,7 +10,7 @@ use Rattle.nova_script.specs.Replies as line
 use Rattle.nova_machine.specs.State.{State}
 use Rattle.nova_machine.specs.Steps.{Step, after_all}
 use Rattle.nova_machine.specs.Commands.{commands_of, whole_commands_of}
-use Rattle.nova_machine.specs.Building.{built_steps}
+use Rattle.nova_building.specs.Building.{built_steps}
 use Rattle.nova_machine.specs.Replies.{reply_to, text}
 use Rattle.nova_runner.specs.Acts.{IsFull, IsStepDamage, own_commit}
 use Rattle.nova_runner.specs.Files.{IsSettled, journal_file}

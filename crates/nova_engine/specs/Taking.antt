@@ -8,7 +8,7 @@ use Rattle.nova_script.specs.declared.context.Request.{Request}
 use Rattle.nova_script.specs.declared.refusal.Refusal.{Refusal}
 use Rattle.nova_machine.specs.Steps.{Step, Refused, after_all}
 use Rattle.nova_machine.specs.Commands.{met_steps}
-use Rattle.nova_machine.specs.Building.{built_steps}
+use Rattle.nova_building.specs.Building.{built_steps}
 use Rattle.nova_machine.specs.Replies.{text}
 use Rattle.nova_runner.specs.Acts.{read_size}
 use Rattle.nova_runner.specs.Files.{IsSettled}

@@ -1,6 +1,6 @@
 //! What a line meets while only some commands are built.
 ghost use Rattle.std.specs.Prelude.{◌≡◌};
-ghost use Rattle.nova_machine.specs.Building.{built_met, is_built as is_built_command, told_while_building};
+ghost use Rattle.nova_building.specs.Building.{built_met, is_built as is_built_command, told_while_building};
 
 use nova_script::{Command, Context, Refusal, Request, read_command, request_for};
 

@@ -23,7 +23,7 @@ use Rattle.nova_script.specs.declared.context.Request.TheVariants as r
 use Rattle.nova_script.specs.declared.forms.Verb.{Verb}
 use Rattle.nova_script.specs.declared.forms.Verb.TheVariants as v
 use Rattle.nova_script.specs.declared.refusal.Refusal.{Refusal}
-use Rattle.nova_script.specs.declared.refusal.Refusal.TheVariants.{UnknownChannel, UnknownTask, NotAnInputChannel, ClockBack, InFlight, NotInFlight, LineTooLong, BadRange, NotBuilt}
+use Rattle.nova_script.specs.declared.refusal.Refusal.TheVariants.{UnknownChannel, UnknownTask, NotAnInputChannel, ClockBack, InFlight, NotInFlight, LineTooLong, BadRange}
 use Rattle.nova_machine.specs.Workflow.{Workflow, channel_in, is_input, schema_in, task_in}
 use Rattle.nova_machine.specs.State.{State, is_in_flight}
 use Rattle.nova_machine.specs.Due.{is_due, is_ready, last_run, capture_of}
@@ -31,7 +31,6 @@ use Rattle.nova_machine.specs.Needed.{indices}
 use Rattle.nova_machine.specs.Steps.{Step, Run, Chain, after, after_all, may_begin, may_chain}
 use Rattle.nova_machine.specs.Lines.{lines_of}
 use Rattle.nova_machine.specs.Commands.{around, asked_steps, commands_of, load_steps, loaded_channel, loaded_steps, met_steps, read_before, read_rows, refused, rows_for, steps, steps_of, work_steps}
-use Rattle.nova_machine.specs.Building.{built_met, built_only, built_steps, built_steps_of, is_built}
 use Rattle.nova_machine.specs.Reachable.{AllMade, IsReachable}
 use Rattle.nova_machine.specs.ReachableLaws.{CommandsMakeSteps, SessionsReach}
 use Rattle.nova_machine.proofs.Turns.{flow_after}
@@ -51,7 +50,7 @@ at_most a b e = grind (arith, nat_tests, e)
 
 -- ---- what a request that isn't refused asks of the state
 
-abbrev Asks : State → Request → Type 0
+abbrev pub Asks : State → Request → Type 0
 Asks s (r.Load n) = (n < length s.flow.channels) × (is_input s.flow n ≡ true)
 Asks s (r.Tick m) = (s.moment ≤ m) × (m ≤ 2 ^ 62)
 Asks s (r.Run t) = may_begin s t ≡ true
@@ -150,7 +149,7 @@ tick_asks : (s : State) (m : ℕ) → m ≤ 2 ^ 62 → (q : Request) (b : Bool) 
 tick_asks s m low q true is e = absurd cc
 tick_asks s m low q false is e = let same : r.Tick m ≡ q = cc in let le : s.moment ≤ m = grind (arith, nat_tests, is) in subst (Asks s) same (le, low)
 
-asks : (s : State) (command : Command) → Within command → (q : Request) → request_of (around s) command ≡ Ok q → Asks s q
+pub asks : (s : State) (command : Command) → Within command → (q : Request) → request_of (around s) command ≡ Ok q → Asks s q
 asks s (c.Load name) low q e =
     let a = asked_ok r.Load (input_channel (around s) name) q e in
     let u = unless_ok (λ n. is_some (channel_in s.flow n).writer) NotAnInputChannel (channel_of (around s) name) a.0 a.1 in
@@ -275,14 +274,14 @@ asked_made s r.Collect p = (tt, tt)
 asked_made s (r.Show n) p = (p, tt)
 asked_made s (r.Blocks n) p = (p, tt)
 
-met_made : (s : State) (o : Option (Result Request Refusal)) → ((q : Request) → o ≡ Some (Ok q) → Asks s q) → AllMade s (met_steps s o)
+pub met_made : (s : State) (o : Option (Result Request Refusal)) → ((q : Request) → o ≡ Some (Ok q) → Asks s q) → AllMade s (met_steps s o)
 met_made s None is = tt
 met_made s (Some (Err x)) is = (tt, tt)
 met_made s (Some (Ok q)) is = asked_made s q (is q refl)
 
 -- ---- loads
 
-abbrev Clean : List ℕ → Type 0
+abbrev pub Clean : List ℕ → Type 0
 Clean line = has_newline line ≡ false
 
 fit_before : (schema : Shape) (n : ℕ) (o : Result Entry RowFault) (rest : Result (List Entry) ℕ) → ((e : Entry) → o ≡ Ok e → FitsEntry schema e)
@@ -326,14 +325,14 @@ load_asks s (Ok r.Collect) n p e = absurd cc
 load_asks s (Ok (r.Show m)) n p e = absurd cc
 load_asks s (Ok (r.Blocks m)) n p e = absurd cc
 
-load_made : (s : State) (o : Option (Result Request Refusal)) → ((q : Request) → o ≡ Some (Ok q) → Asks s q) → (rows : List (List ℕ)) → AllByRecursion Clean rows → (is_ended : Bool) → AllMade s (load_steps s o rows is_ended)
+pub load_made : (s : State) (o : Option (Result Request Refusal)) → ((q : Request) → o ≡ Some (Ok q) → Asks s q) → (rows : List (List ℕ)) → AllByRecursion Clean rows → (is_ended : Bool) → AllMade s (load_steps s o rows is_ended)
 load_made s None p rows clean is_ended = tt
 load_made s (Some met) p rows clean is_ended =
     by_channel s rows clean (loaded_channel met) (λ n e. load_asks s met n (λ q is. p q (ap (λ (m : Result Request Refusal). let o : Option (Result Request Refusal) = Some m in o) is)) e) _
 
 -- ---- commands
 
-abbrev CleanItem : Item → Type 0
+abbrev pub CleanItem : Item → Type 0
 CleanItem (Alone line) = Unit {0}
 CleanItem (WithRows line rows is_ended) = AllByRecursion Clean rows
 
@@ -341,36 +340,9 @@ item_made : (s : State) (x : Item) → CleanItem x → AllMade s (steps_of s x)
 item_made s (Alone line) clean = met_made s (met_by (around s) (command_of line)) (line_asks s line)
 item_made s (WithRows line rows is_ended) clean = load_made s (met_by (around s) (command_of line)) (line_asks s line) rows clean is_ended
 
--- a command that is built is that of the line
-built_once : (m : Result (Option Command) Refusal) (d : Command) → built_only m ≡ Ok (Some d) → m ≡ Ok (Some d)
-built_once (Err x) d e = absurd cc
-built_once (Ok None) d e = absurd cc
-built_once (Ok (Some x)) d e = go (is_built x) e
-  where
-    go : (b : Bool) → (if b then Ok (Some x) else Err NotBuilt) ≡ Ok (Some d) → ◌≡◌ {A = Result (Option Command) Refusal} (Ok (Some x)) (Ok (Some d))
-    go true f = f
-    go false f = absurd cc
-
-built_asks : (s : State) (line : List ℕ) (q : Request) → built_met (around s) line ≡ Some (Ok q) → Asks s q
-built_asks s line q e = go (built_only (command_of line)) refl e
-  where
-    go : (m : Result (Option Command) Refusal) → built_only (command_of line) ≡ m → met_by (around s) m ≡ Some (Ok q) → Asks s q
-    go (Err x) is f = absurd cc
-    go (Ok None) is f = absurd cc
-    go (Ok (Some d)) is f = let same : request_of (around s) d ≡ Ok q = cc in asks s d (within line d (built_once (command_of line) d is)) q same
-
-built_item_made : (s : State) (x : Item) → CleanItem x → AllMade s (built_steps_of s x)
-built_item_made s (Alone line) clean = met_made s (built_met (around s) line) (built_asks s line)
-built_item_made s (WithRows line rows is_ended) clean = load_made s (built_met (around s) line) (built_asks s line) rows clean is_ended
-
 items_made : (s : State) (xs : List Item) → AllByRecursion CleanItem xs → AllMade s (steps s xs)
 items_made s [] clean = tt
 items_made s (x ∷ xs) clean = made_both s (steps_of s x) (steps (after_all s (steps_of s x)) xs) (item_made s x clean.0) (items_made (after_all s (steps_of s x)) xs clean.1)
-
-built_items_made : (s : State) (xs : List Item) → AllByRecursion CleanItem xs → AllMade s (built_steps s xs)
-built_items_made s [] clean = tt
-built_items_made s (x ∷ xs) clean =
-    made_both s (built_steps_of s x) (built_steps (after_all s (built_steps_of s x)) xs) (built_item_made s x clean.0) (built_items_made (after_all s (built_steps_of s x)) xs clean.1)
 
 -- ---- the lines of a session hold no newline
 
@@ -407,16 +379,16 @@ items_clean false (l ∷ ls) clean =
     either_way (AllByRecursion CleanItem) (is_load l) (WithRows l (rows_before_dot ls) (has_dot ls) ∷ items_from true ls) (alone l (command_of l) ++ items_from false ls)
     (rows_clean ls clean.1, items_clean true ls clean.1) (alone_clean l (command_of l) (items_from false ls) (items_clean false ls clean.1))
 
-pub commands_make_steps : CommandsMakeSteps
-commands_make_steps s bytes =
-    let clean = items_clean false (lines_of bytes) (lines_clean bytes) in
-    (items_made s (commands_of bytes) clean, built_items_made s (commands_of bytes) clean)
+-- the commands of a session have rows of single lines
+pub commands_clean : (bytes : List ℕ) → AllByRecursion CleanItem (commands_of bytes)
+commands_clean bytes = items_clean false (lines_of bytes) (lines_clean bytes)
 
-reach_all : (s : State) (xs : List Step) → IsReachable s → AllMade s xs → IsReachable (after_all s xs)
+pub commands_make_steps : CommandsMakeSteps
+commands_make_steps s bytes = items_made s (commands_of bytes) (commands_clean bytes)
+
+pub reach_all : (s : State) (xs : List Step) → IsReachable s → AllMade s xs → IsReachable (after_all s xs)
 reach_all s [] at made = at
 reach_all s (x ∷ xs) at made = reach_all (after s x) xs (reachable_more s x at made.0) made.1
 
 pub sessions_reach : SessionsReach
-sessions_reach s bytes at =
-    let made = commands_make_steps s bytes in
-    (reach_all s (steps s (commands_of bytes)) at made.0, reach_all s (built_steps s (commands_of bytes)) at made.1)
+sessions_reach s bytes at = reach_all s (steps s (commands_of bytes)) at (commands_make_steps s bytes)

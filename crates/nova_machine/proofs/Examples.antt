@@ -23,7 +23,7 @@ use Rattle.nova_pig_pattern.specs.OutputKeys.{output_keys}
 use Rattle.nova_machine.specs.Results.{taken_up}
 use Rattle.nova_machine.specs.Workflow.{main_place}
 use Rattle.nova_machine.specs.FlowA.{all, flow_a, new, requests}
-use Rattle.nova_machine.specs.Sessions.{CallAfterCall, OrdinaryDay, LookupChanges, CompactionBehindACursor, Overlap, Clock, Period, Cascade, RefusedAndTruncated, OtherRefusals, LeastCause, Chaining, NoPathToChain, IntervalsOnce, Bases, ShownEmpty, LoadedEntries, WholeCommands, BuiltAlone, BuiltShown}
+use Rattle.nova_machine.specs.Sessions.{CallAfterCall, OrdinaryDay, LookupChanges, CompactionBehindACursor, Overlap, Clock, Period, Cascade, RefusedAndTruncated, OtherRefusals, LeastCause, Chaining, NoPathToChain, IntervalsOnce, Bases, ShownEmpty, LoadedEntries, WholeCommands}
 
 pub call_after_call : CallAfterCall
 unfolding digits
@@ -88,12 +88,8 @@ loaded_entries = refl
 pub whole_commands : WholeCommands
 whole_commands = (refl, refl)
 
-pub built_alone : BuiltAlone
-unfolding digits row_of_text fields_of values_of
-built_alone = refl
-
 -- a table without rows, shown
-no_entries : fin.entries (fin.empty {X = List Value} {R = key_cmp}) ≡ []
+pub no_entries : fin.entries (fin.empty {X = List Value} {R = key_cmp}) ≡ []
 no_entries = none (fin.entries fin.empty) (sym (fin.len-entries fin.empty) ∙ fin.len-empty key_cmp (List Value))
   where
     none : (es : List (List Value × List Value)) → length es ≡ 0 → es ≡ []
@@ -103,10 +99,6 @@ no_entries = none (fin.entries fin.empty) (sym (fin.len-entries fin.empty) ∙ f
 pub shown_empty : ShownEmpty
 unfolding digits
 shown_empty z = (flat_map row_line (map (λ (e : List Value × List Value). e.1) (no_entries z)) ++ line.shown (codes "raw") 0 (fin.len-empty key_cmp (List Value) z)) ++ []
-
-pub built_shown : BuiltShown
-unfolding digits
-built_shown z = (flat_map row_line (map (λ (e : List Value × List Value). e.1) (no_entries z)) ++ line.shown (codes "raw") 0 (fin.len-empty key_cmp (List Value) z)) ++ []
 
 pub bases : Bases
 unfolding digits chosen_path weight_of

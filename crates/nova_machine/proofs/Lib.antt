@@ -12,7 +12,6 @@ pub mod Collecting
 pub mod Kept
 pub mod Reached
 pub mod Commanded
-mod Built
 pub mod Making
 pub mod Running
 pub mod Ready
@@ -24,4 +23,4 @@ pub mod History
 pub mod Runs
 pub mod Counted
 pub mod Shown
-mod Examples
+pub mod Examples

@@ -16,7 +16,6 @@ use Rattle.nova_machine.specs.Writing.{made_version}
 use Rattle.nova_machine.specs.Needed.{hops, needed, path_of}
 use Rattle.nova_machine.specs.Steps.{Step, Collect, add_run, after, after_all}
 use Rattle.nova_machine.specs.Commands.{commands_of, steps}
-use Rattle.nova_machine.specs.Building.{built_steps}
 use Rattle.nova_machine.specs.Reachable.{AllMade, IsMade, IsReachable}
 use Rattle.nova_machine.specs.Sound.{IsWired, IsSound}
 
@@ -31,14 +30,13 @@ EndedIsReachable = (s : State) → IsReachable s → IsReachable (ended s)
 abbrev pub ReachableIsSound : Type 0
 ReachableIsSound = (s : State) → IsWired s.flow → IsReachable s → IsSound s
 
--- commands make no step but those of `IsMade`, whatever their bytes are; so it is too while only some commands are built
+-- commands make no step but those of `IsMade`, whatever their bytes are
 abbrev pub CommandsMakeSteps : Type 0
-CommandsMakeSteps = (s : State) (bytes : List ℕ) → AllMade s (steps s (commands_of bytes)) × AllMade s (built_steps s (commands_of bytes))
+CommandsMakeSteps = (s : State) (bytes : List ℕ) → AllMade s (steps s (commands_of bytes))
 
 -- so sessions lead from reachable states to reachable ones
 abbrev pub SessionsReach : Type 0
-SessionsReach = (s : State) (bytes : List ℕ) → IsReachable s →
-    IsReachable (after_all s (steps s (commands_of bytes))) × IsReachable (after_all s (built_steps s (commands_of bytes)))
+SessionsReach = (s : State) (bytes : List ℕ) → IsReachable s → IsReachable (after_all s (steps s (commands_of bytes)))
 
 -- something is kept of each channel
 abbrev pub ChannelsAreKept : Type 0

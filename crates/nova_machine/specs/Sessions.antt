@@ -7,9 +7,8 @@ use Rattle.nova_workflow.specs.declared.flow.Trigger.TheVariants.{Every, After}
 use Rattle.nova_machine.specs.State.{State, start}
 use Rattle.nova_machine.specs.Steps.{Load}
 use Rattle.nova_machine.specs.Commands.{commands_of, whole_commands_of, steps}
-use Rattle.nova_machine.specs.Building.{built_steps}
 use Rattle.nova_machine.specs.Replies.{text}
-use Rattle.nova_machine.specs.FlowA.{flow_a, numbers, one_channel}
+use Rattle.nova_machine.specs.FlowA.{flow_a, numbers}
 
 abbrev pub opening : State
 opening = start (flow_a (Every 60))
@@ -94,16 +93,6 @@ LoadedEntries = steps opening (commands_of (codes "load raw\n-1\n-2\n-1\n.\n"))
 abbrev pub WholeCommands : Type 0
 WholeCommands = (whole_commands_of (codes "show raw\nload raw\n-1\n.\nload raw\n-2\n.") ≡ Alone (codes "show raw") ∷ WithRows (codes "load raw") (codes "-1" ∷ []) true ∷ [])
     × (whole_commands_of (codes "show raw") ≡ [])
-
--- while only `load`, `tick`, `run` and `show` are built: all but these with their one word is refused as not built, whatever names it has; what these meet is told, a load's at its end
-abbrev pub BuiltAlone : Type 0
-BuiltAlone = text opening
-    (built_steps opening (commands_of (codes "load raw\n-1\n.\n  \nfrob\ntick\ntick 5\nwork\nshow zzz\nshow\nshow raw raw\nshow 1\nload\n.\nload zzz\nx\n.\nload slow\n.\nload slow\nx\n.\nrun pick\nrun zzz\nload raw raw\n.\nload raw\n-1\nx\n.\nchain raw 1 2\ncompact raw\ncollect\nblocks zzz\nload raw\n-2")))
-    ≡ codes "loaded raw 1\nno 90 not-built\nno 90 not-built\nticked 5\nno 90 not-built\nno 3 unknown-channel\nno 90 not-built\nno 90 not-built\nno 90 not-built\nno 90 not-built\nno 3 unknown-channel\nno 5 not-an-input-channel\nno 5 not-an-input-channel\nran pick 1\nno 4 unknown-task\nno 90 not-built\nno 6 bad-row 2\nno 90 not-built\nno 90 not-built\nno 90 not-built\nno 90 not-built\nno 7 unfinished-load\n"
-
--- and what is built is shown
-abbrev pub BuiltShown : Type 0
-BuiltShown = text (start one_channel) (built_steps (start one_channel) (commands_of (codes "show raw\n"))) ≡ codes "shown raw 0 0\n"
 
 -- a channel that is written anew has only bases
 abbrev pub Bases : Type 0

@@ -58,9 +58,3 @@ returns-clause-loaded_entries c = examples.loaded_entries
 
 pub returns-clause-whole_commands : goal.returns-clause-whole_commands
 returns-clause-whole_commands c = examples.whole_commands
-
-pub returns-clause-built_alone : goal.returns-clause-built_alone
-returns-clause-built_alone c = examples.built_alone
-
-pub returns-clause-built_shown : goal.returns-clause-built_shown
-returns-clause-built_shown c = examples.built_shown

@@ -1,5 +1,7 @@
 -- Which lines are refused as not built.
-use Rattle.std.proofs.Common.{◌≡◌, ℕ, Bool, true, false, List, [], Option, Some, None, Result, Ok, Err, refl, ap, if◌then◌else◌, arith}
+use Rattle.std.proofs.Common.{◌≡◌, ℕ, ◌<◌, ◌≤◌, Bool, true, false, List, [], length, Option, Some, None, Result, Ok, Err, refl, ap, if◌then◌else◌, arith}
+use Rattle.std.specs.Prelude.{nat_le}
+use Rattle.std.proofs.lemmas.Bool.Decides.{nat_tests}
 use Rattle.nova_script.specs.Words.{words_of}
 use Rattle.nova_script.specs.Commands as f
 use Rattle.nova_script.specs.Commands.{IsCommand, IsRefused, IsWithin, Reads}
@@ -10,12 +12,12 @@ use Rattle.nova_script.specs.declared.command.Command.{Command}
 use Rattle.nova_script.specs.declared.command.Command.TheVariants as c
 use Rattle.nova_script.specs.declared.context.Request.{Request}
 use Rattle.nova_script.specs.declared.refusal.Refusal.{Refusal}
-use Rattle.nova_script.specs.declared.refusal.Refusal.TheVariants.{NotBuilt}
+use Rattle.nova_script.specs.declared.refusal.Refusal.TheVariants.{LineTooLong, NotBuilt}
 use Rattle.nova_script.proofs.CommandForms.{lines_are_forms, refusals_are_causes}
 use Rattle.nova_script.proofs.RequestRules.{met_are_causes}
-use Rattle.nova_machine.specs.Building.{built_met, built_only, is_built, told_while_building}
-use Rattle.nova_machine.specs.Laws as l
-use Rattle.nova_machine.specs.Laws.{IsBuiltForm, IsNotBuilt, WordsAreBuilt}
+use Rattle.nova_building.specs.Building.{built_met, built_only, is_built, told_while_building}
+use Rattle.nova_building.specs.Laws as l
+use Rattle.nova_building.specs.Laws.{IsBuiltForm, IsNotBuilt, WordsAreBuilt}
 
 -- ---- words and commands
 
@@ -122,8 +124,61 @@ as_ever x line form = go (command_of line) refl
         ap (λ (b : Bool). met_by x (if b then Ok (Some d) else Err NotBuilt)) built
     go (Err refusal) is = same_refusal refusal ((refusals_are_causes line refusal).0 is) is
 
+-- no command is refused as too long by what it meets
+never_long : (x : Surroundings) (d : Command) → request_of x d ≡ Err LineTooLong → ⊥
+never_long x d e = none d ((met_are_causes x d LineTooLong).0 e)
+  where
+    none : (d : Command) → Meets x d LineTooLong → ⊥
+    none d is = elim is [ ]
+
+over : (n : ℕ) → (n ≤ 4194304 → ⊥) → 4194304 < n
+over n is = go (nat_le n 4194304) refl
+  where
+    go : (b : Bool) → nat_le n 4194304 ≡ b → 4194304 < n
+    go true e = absurd (is (grind (arith, nat_tests, e)))
+    go false e = grind (arith, nat_tests, e)
+
+long_so : (x : Surroundings) (line : List ℕ) → built_met x line ≡ Some (Err LineTooLong) → IsWithin line → ⊥
+long_so x line e short = go (command_of line) refl e
+  where
+    unbuilt : (d : Command) (b : Bool) → met_by x (if b then Ok (Some d) else Err NotBuilt) ≡ Some (Err LineTooLong) → ⊥
+    unbuilt d true e = let same : request_of x d ≡ Err LineTooLong = cc in never_long x d same
+    unbuilt d false e = cc
+
+    go : (m : Result (Option Command) Refusal) → command_of line ≡ m → met_by x (built_only m) ≡ Some (Err LineTooLong) → ⊥
+    go (Ok None) is e = cc
+    go (Ok (Some d)) is e = unbuilt d (is_built d) e
+    go (Err refusal) is e =
+        let told = refusal_told line refusal ((refusals_are_causes line refusal).0 is) short in
+        cc
+
+so_long : (x : Surroundings) (line : List ℕ) → (IsWithin line → ⊥) → built_met x line ≡ Some (Err LineTooLong)
+so_long x line long =
+    let is : command_of line ≡ Err LineTooLong = (refusals_are_causes line LineTooLong).1 (f.too_long (over (length line) long)) in
+    ap (λ (m : Result (Option Command) Refusal). met_by x (built_only m)) is
+
+blank_so : (x : Surroundings) (line : List ℕ) → built_met x line ≡ None → IsWithin line × (words_of line ≡ [])
+blank_so x line e = go (command_of line) refl e
+  where
+    unbuilt : (d : Command) (b : Bool) → met_by x (if b then Ok (Some d) else Err NotBuilt) ≡ None → ⊥
+    unbuilt d true e = cc
+    unbuilt d false e = cc
+
+    within_blank : Reads line None → IsWithin line × (words_of line ≡ [])
+    within_blank (f.blank short none) = (short, none)
+
+    go : (m : Result (Option Command) Refusal) → command_of line ≡ m → met_by x (built_only m) ≡ None → IsWithin line × (words_of line ≡ [])
+    go (Ok None) is e = within_blank ((lines_are_forms line None).0 is)
+    go (Ok (Some d)) is e = absurd (unbuilt d (is_built d) e)
+    go (Err refusal) is e = absurd cc
+
+so_blank : (x : Surroundings) (line : List ℕ) → IsWithin line × (words_of line ≡ []) → built_met x line ≡ None
+so_blank x line is = ap (λ (m : Result (Option Command) Refusal). met_by x (built_only m)) ((lines_are_forms line None).1 (f.blank is.0 is.1))
+
 pub words_are_built : WordsAreBuilt
 words_are_built = record {
+  too_long = λ x line. (long_so x line, so_long x line);
+  blank = λ x line. (blank_so x line, so_blank x line);
   not_built = λ x line. (told_so x line, so_told x line);
   as_ever = as_ever;
 }

@@ -1,0 +1,4 @@
+pub mod Turns
+pub mod Built
+pub mod Making
+mod Examples

@@ -1,5 +1,0 @@
-use Rattle.nova_machine.proofs.Built as built
-use Rattle.nova_machine.proofs.words_are_built.Goals as goal
-
-pub returns : goal.returns
-returns c = built.words_are_built

@@ -25,15 +25,17 @@ built_command : (ws : List (List ℕ)) → IsBuiltForm ws → (d : Command) × I
 built_command _ (l.load {c = name} is) = (c.Load name, f.load is, refl)
 built_command _ (l.tick {m} is) = (c.Tick m, f.tick is, refl)
 built_command _ (l.run {t = name} is) = (c.Run name, f.run is, refl)
+built_command _ (l.begin {t = name} is) = (c.Begin name, f.begin is, refl)
+built_command _ (l.drop {t = name} is) = (c.Drop name, f.drop is, refl)
 built_command _ (l.show {c = name} is) = (c.Show name, f.show is, refl)
 
 built_form : (ws : List (List ℕ)) (d : Command) → IsCommand ws d → is_built d ≡ true → IsBuiltForm ws
 built_form _ _ (f.load is) e = l.load is
 built_form _ _ (f.tick is) e = l.tick is
 built_form _ _ (f.run is) e = l.run is
-built_form _ _ (f.begin is) e = absurd (cc)
+built_form _ _ (f.begin is) e = l.begin is
 built_form _ _ (f.finish is) e = absurd (cc)
-built_form _ _ (f.drop is) e = absurd (cc)
+built_form _ _ (f.drop is) e = l.drop is
 built_form _ _ f.work e = absurd (cc)
 built_form _ _ (f.compact is) e = absurd (cc)
 built_form _ _ (f.chain is from to) e = absurd (cc)

@@ -15,6 +15,8 @@ abbrev pub is_built : Command → Bool
 is_built (c.Load name) = true
 is_built (c.Tick m) = true
 is_built (c.Run name) = true
+is_built (c.Begin name) = true
+is_built (c.Drop name) = true
 is_built (c.Show name) = true
 is_built _ = false
 

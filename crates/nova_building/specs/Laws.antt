@@ -20,6 +20,8 @@ pub data IsBuiltForm : List (List ℕ) → Type 0 where
   load : {c : List ℕ} → IsName c → IsBuiltForm (codes "load" ∷ c ∷ [])
   tick : {w : List ℕ} {m : ℕ} → IsNumber w m → IsBuiltForm (codes "tick" ∷ w ∷ [])
   run : {t : List ℕ} → IsName t → IsBuiltForm (codes "run" ∷ t ∷ [])
+  begin : {t : List ℕ} → IsName t → IsBuiltForm (codes "begin" ∷ t ∷ [])
+  drop : {t : List ℕ} → IsName t → IsBuiltForm (codes "drop" ∷ t ∷ [])
   show : {c : List ℕ} → IsName c → IsBuiltForm (codes "show" ∷ c ∷ [])
 
 -- a line within the limit that has words, and they are no such ones

@@ -1,5 +1,5 @@
 -- One step, and the reply that tells it.
-use Rattle.std.proofs.Common.{◌≡◌, ℕ, ◌+◌, ◌≤◌, Bool, List, [], ◌∷◌, ◌++◌, refl, sym, ap, ◌∙◌, subst, arith}
+use Rattle.std.proofs.Common.{◌≡◌, ℕ, ◌+◌, ◌≤◌, Bool, List, [], ◌∷◌, ◌++◌, Option, None, refl, sym, ap, ◌∙◌, subst, arith}
 use Rattle.std.proofs.lemmas.List.{append-nil}
 use Rattle.nova_value.specs.declared.schema.Entry.{Entry}
 use Rattle.nova_delta.specs.Merge.{DeltaValue}
@@ -7,6 +7,8 @@ use Rattle.nova_outside.specs.History.{Event, current, replies}
 use Rattle.nova_outside.specs.Replies.{Gives, GivesInPart, HasReplied, HasRepliedInPart}
 use Rattle.nova_outside.proofs.ReplyLemmas.{replies_grow}
 use Rattle.nova_commit.specs.declared.commit.Commit.{Commit}
+use Rattle.nova_journal.specs.Extent.{Extent}
+use Rattle.nova_meta.specs.declared.captured.Captured.{Captured}
 use Rattle.nova_meta.specs.Catalog.{Entered, shelf_at}
 use Rattle.nova_channel.specs.Reading.{route_size}
 use Rattle.nova_script.specs.Refusals.{refusal_text}
@@ -14,17 +16,22 @@ use Rattle.nova_script.specs.Replies as line
 use Rattle.nova_script.specs.declared.refusal.Refusal.{Refusal}
 use Rattle.nova_machine.specs.Workflow.{Workflow, channel_in, output_in, task_in}
 use Rattle.nova_machine.specs.State.{State, ended, newest}
-use Rattle.nova_machine.specs.Steps.{Step, Refused, Run, Show, after}
+use Rattle.nova_machine.specs.Steps.{Step, Begin, Drop, Refused, Run, Show, after}
+use Rattle.nova_machine.specs.Reachable.{IsMade}
 use Rattle.nova_machine.specs.Replies.{reply_to}
 use Rattle.nova_machine.proofs.Turns.{flow_after}
-use Rattle.nova_runner.specs.Acts.{behind, catalog_behind, own_commit, read_size}
+use Rattle.nova_runner.specs.Acts.{IsStepDamage, behind, catalog_behind, own_commit, read_size}
+use Rattle.nova_runner.specs.Beginning.{MovesAlone, with_slot}
+use Rattle.nova_runner.specs.Files.{IsSettled}
+use Rattle.nova_runner.specs.Opening.{IsRead}
 use Rattle.nova_runner.specs.Held.{Held}
 use Rattle.nova_runner.specs.Stands.{Drawn, StandsBut}
 use Rattle.nova_runner.specs.Steps.{AsksLoad, AsksRun, AsksShow, AsksTick, Does, Done, HeldBack, LosesNone, Stops, StoreStands, Why, Reply, silent}
 use Rattle.nova_runner.proofs.Loading.{drawings, drawn_at}
 use Rattle.nova_runner.proofs.Shows.{current_replied, lost_replied, settled_replied, stands_replied}
+use Rattle.nova_engine.specs.Damage.{IsReadIn}
 use Rattle.nova_engine.specs.Seen.{Seen}
-use Rattle.nova_engine.specs.Taking.{AsksOne, AsksRefused, StopsAsked, StopsIn, Takes, TakesAsked}
+use Rattle.nova_engine.specs.Taking.{AsksBegin, AsksDrop, AsksOne, AsksRefused, StopsAsked, StopsIn, Takes, TakesAsked}
 use Rattle.nova_engine.proofs.Takings.{done_catalog, loses_both, stops_one, takes_one}
 
 -- ---- a step that only replies
@@ -195,6 +202,66 @@ module _ (h : Bool) (store new : Held) (t version : ℕ) (given : List ℕ) (a m
 
   pub ran_stops : GivesInPart h m.history b.history given → StopsAsked Reply h (AsksOne (AsksRun t)) store a b
   ran_stops = told_stops h (AsksRun t) store new given a m b does (ran_line store new a.history t version given flow number is) (run_reads store t a.read m.read most) read
+
+-- ---- an execution that begins or is dropped
+
+-- a step without a commit and without a call of the host
+alone_done : (store new : Held) (commits : List Commit) (s : State) (x : Step) (a : List Event) → own_commit store.catalog s x ≡ None → ((file at : ℕ) → IsStepDamage s.flow store.catalog (current a) x file at → ⊥)
+    → new.journal ≡ store.journal → new.catalog ≡ store.catalog → StoreStands new commits a (after s x) → Done store new commits s x [] a a
+alone_done store new commits s x a none undamaged journal catalog stands =
+    let generation : new.journal.generation ≡ store.journal.generation = ap (λ (e : Extent). e.generation) journal in
+    record {
+      stands = subst (λ own. StoreStands new (behind commits own) a (after s x)) (sym none) stands;
+      generation = generation;
+      others = λ n free. refl;
+      no_loss = subst (λ (c : Entered). LosesNone s.flow store.catalog c (current a) (current a)) (sym catalog) (λ p named lost. (named, lost));
+      settled = λ was. subst (λ (c : Entered). IsSettled new.journal.generation c a) (sym catalog) (subst (λ g. IsSettled g store.catalog a) (sym generation) was);
+      replied = sym (append-nil (replies a));
+      undamaged = undamaged;
+      room = λ d e. cc;
+    }
+
+begin_does : (h : Bool) (store new : Held) (t : ℕ) (slot : Option Captured) (a : List Event) → MovesAlone (Begin t) store new → new ≡ with_slot store t slot → Does h (AsksBegin t) silent store new a a
+begin_does h store new t slot a moves is honest commits s x stands asked =
+    let made : IsMade s (Begin t) = subst (IsMade s) asked.0 asked.1 in
+    subst (λ y. Done store new commits s y [] a a) (sym asked.0)
+    (alone_done store new commits s (Begin t) a refl (λ file at damage. damage) (ap (λ (n : Held). n.journal) is) (ap (λ (n : Held). n.catalog) is) (moves commits a s stands made))
+
+drop_does : (h : Bool) (store new : Held) (t : ℕ) (slot : Option Captured) (a : List Event) → MovesAlone (Drop t) store new → new ≡ with_slot store t slot → Does h (AsksDrop t) silent store new a a
+drop_does h store new t slot a moves is honest commits s x stands asked =
+    let made : IsMade s (Drop t) = subst (IsMade s) asked.0 asked.1 in
+    subst (λ y. Done store new commits s y [] a a) (sym asked.0)
+    (alone_done store new commits s (Drop t) a refl (λ file at damage. damage) (ap (λ (n : Held). n.journal) is) (ap (λ (n : Held). n.catalog) is) (moves commits a s stands made))
+
+began_line : (store new : Held) (a : List Event) (t : ℕ) (given : List ℕ) → new.flow ≡ store.flow → given ≡ line.began (task_in new.flow t).name → IsLineOf (AsksBegin t) store a given
+began_line store new a t given flow is commits s x stands asked =
+    is ∙ ap (λ (f : Workflow). line.began (task_in f t).name) (flow ∙ stands.flow) ∙ ap (λ y. reply_to s y) (sym asked.0)
+
+dropped_line : (store new : Held) (a : List Event) (t : ℕ) (given : List ℕ) → new.flow ≡ store.flow → given ≡ line.dropped (task_in new.flow t).name → IsLineOf (AsksDrop t) store a given
+dropped_line store new a t given flow is commits s x stands asked =
+    is ∙ ap (λ (f : Workflow). line.dropped (task_in f t).name) (flow ∙ stands.flow) ∙ ap (λ y. reply_to s y) (sym asked.0)
+
+module _ (h : Bool) (store new : Held) (t : ℕ) (slot : Option Captured) (given : List ℕ) (a b : Seen) (slots : new ≡ with_slot store t slot) (read : b.read ≡ a.read) where
+  flow_of_slot : new.flow ≡ store.flow
+  flow_of_slot = ap (λ (n : Held). n.flow) slots
+
+  pub began_takes : MovesAlone (Begin t) store new → given ≡ line.began (task_in new.flow t).name → Gives h a.history b.history given → TakesAsked h (AsksOne (AsksBegin t)) store new a b
+  began_takes moves is = told_takes h (AsksBegin t) store new given a a b (begin_does h store new t slot a.history moves slots) (began_line store new a.history t given flow_of_slot is) (reads_nothing (AsksBegin t) store a.read a.read refl) read
+
+  pub began_stops : MovesAlone (Begin t) store new → given ≡ line.began (task_in new.flow t).name → GivesInPart h a.history b.history given → StopsAsked Reply h (AsksOne (AsksBegin t)) store a b
+  began_stops moves is = told_stops h (AsksBegin t) store new given a a b (begin_does h store new t slot a.history moves slots) (began_line store new a.history t given flow_of_slot is) (reads_nothing (AsksBegin t) store a.read a.read refl) read
+
+  pub dropped_takes : MovesAlone (Drop t) store new → given ≡ line.dropped (task_in new.flow t).name → Gives h a.history b.history given → TakesAsked h (AsksOne (AsksDrop t)) store new a b
+  dropped_takes moves is = told_takes h (AsksDrop t) store new given a a b (drop_does h store new t slot a.history moves slots) (dropped_line store new a.history t given flow_of_slot is) (reads_nothing (AsksDrop t) store a.read a.read refl) read
+
+  pub dropped_stops : MovesAlone (Drop t) store new → given ≡ line.dropped (task_in new.flow t).name → GivesInPart h a.history b.history given → StopsAsked Reply h (AsksOne (AsksDrop t)) store a b
+  dropped_stops moves is = told_stops h (AsksDrop t) store new given a a b (drop_does h store new t slot a.history moves slots) (dropped_line store new a.history t given flow_of_slot is) (reads_nothing (AsksDrop t) store a.read a.read refl) read
+
+-- what the journal says of a store, a slot doesn't change
+pub read_slot : (h : Bool) (store new : Held) (t : ℕ) (slot : Option Captured) (a : List Event) → new ≡ with_slot store t slot → IsReadIn h store a → IsReadIn h new a
+read_slot h store new t slot a is read honest =
+    let known = read honest in
+    (known.0, subst (λ (n : Held). IsRead n known.0 (current a)) (sym is) (record { marked = known.1.marked; log = known.1.log; in_order = known.1.in_order }))
 
 -- ---- a show
 

@@ -16,7 +16,8 @@ use Rattle.nova_script.specs.declared.refusal.Refusal.TheVariants.{NotBuilt, Unf
 use Rattle.nova_script.proofs.Fronts.{front_decides}
 use Rattle.nova_machine.specs.Workflow.{Workflow, is_input, schema_in}
 use Rattle.nova_machine.specs.State.{State, is_in_flight}
-use Rattle.nova_machine.specs.Steps.{Step, Load, Refused as RefusedStep, Run, Show, Tick, after_all}
+use Rattle.nova_machine.specs.Reachable.{IsMade}
+use Rattle.nova_machine.specs.Steps.{Step, Begin, Drop, Load, Refused as RefusedStep, Run, Show, Tick, after_all}
 use Rattle.nova_building.specs.Building.{built_met, built_only, built_steps, is_built}
 use Rattle.nova_machine.specs.Commands.{around, bad_row, load_steps, loaded_channel, loaded_steps, met_steps, read_rows, rows_for}
 use Rattle.nova_machine.proofs.Commanded.{begins}
@@ -33,7 +34,7 @@ use Rattle.nova_engine.specs.Positions.{IsFront, cut_off, ended_by, load_after}
 use Rattle.nova_engine.specs.Moves.{SessionStands, StopsLines, TakesLine, TakesLines}
 use Rattle.nova_engine.specs.Seen.{Seen}
 use Rattle.nova_engine.specs.Stopping.{why}
-use Rattle.nova_engine.specs.Taking.{Answers, AsksClose, AsksMet, AsksOne, AsksRefused, StopsAsked, StopsIn, Takes, TakesAsked}
+use Rattle.nova_engine.specs.Taking.{Answers, AsksBegin, AsksClose, AsksDrop, AsksMet, AsksOne, AsksRefused, StopsAsked, StopsIn, Takes, TakesAsked}
 use Rattle.nova_engine.proofs.Around.{stands_around}
 use Rattle.nova_engine.proofs.LoadLines.{count_names, count_tasks}
 use Rattle.nova_engine.proofs.Takings.{stops_at_once, takes_nothing}
@@ -109,13 +110,28 @@ met_ticked m store commits h s xs range stands asks =
     let later = range.0 in
     (Tick m, asks, (refl, (omega (arith, later, moment), range.1)))
 
-pub met_ran : (t : ℕ) (store : Held) (commits : List Commit) (h : List Event) (s : State) (xs : List Step) → IsMet (around_held store) (Ok (r.Run t)) → StoreStands store commits h s → AsksMet (Ok (r.Run t)) s xs → AsksOne (AsksRun t) s xs
-met_ran t store commits h s xs range stands asks =
+-- a task that is named and not in flight may begin
+may_begin_met : (t : ℕ) (store : Held) (commits : List Commit) (h : List Event) (s : State) → IsMet (around_held store) (Ok (r.Run t)) → StoreStands store commits h s → IsMade s (Run t)
+may_begin_met t store commits h s range stands =
     let around_is = stands_around store commits h s stands in
     let here : t < length (around s).tasks = subst (λ (x : Surroundings). t < length x.tasks) around_is range.0 in
     let idle : is_in_flight s t ≡ false = sym (ap (λ (x : Surroundings). x.is_in_flight t) around_is) ∙ range.1 in
     let many = count_tasks s.flow in
-    (Run t, asks, (refl, begins s t (omega (arith, here, many)) idle))
+    begins s t (omega (arith, here, many)) idle
+
+pub met_ran : (t : ℕ) (store : Held) (commits : List Commit) (h : List Event) (s : State) (xs : List Step) → IsMet (around_held store) (Ok (r.Run t)) → StoreStands store commits h s → AsksMet (Ok (r.Run t)) s xs → AsksOne (AsksRun t) s xs
+met_ran t store commits h s xs range stands asks = (Run t, asks, (refl, may_begin_met t store commits h s range stands))
+
+pub met_begun : (t : ℕ) (store : Held) (commits : List Commit) (h : List Event) (s : State) (xs : List Step) → IsMet (around_held store) (Ok (r.Begin t)) → StoreStands store commits h s → AsksMet (Ok (r.Begin t)) s xs → AsksOne (AsksBegin t) s xs
+met_begun t store commits h s xs range stands asks = (Begin t, asks, (refl, may_begin_met t store commits h s range stands))
+
+pub met_dropped : (t : ℕ) (store : Held) (commits : List Commit) (h : List Event) (s : State) (xs : List Step) → IsMet (around_held store) (Ok (r.Drop t)) → StoreStands store commits h s → AsksMet (Ok (r.Drop t)) s xs → AsksOne (AsksDrop t) s xs
+met_dropped t store commits h s xs range stands asks =
+    let around_is = stands_around store commits h s stands in
+    let here : t < length (around s).tasks = subst (λ (x : Surroundings). t < length x.tasks) around_is range.0 in
+    let flies : is_in_flight s t ≡ true = sym (ap (λ (x : Surroundings). x.is_in_flight t) around_is) ∙ range.1 in
+    let many = count_tasks s.flow in
+    (Drop t, asks, (refl, (omega (arith, here, many), flies)))
 
 -- ---- a line that no load takes
 

@@ -5,7 +5,7 @@ use Rattle.std.specs.Prelude.{option_map, IfSome, codes, nat_lt}
 use Rattle.std.specs.Str.{bytes_eq}
 use Rattle.nova_script.specs.Words.{words_of}
 use Rattle.nova_script.specs.Forms.{command_in, command_of, is_load, is_too_long, name_and_numbers, no_word, one_name, one_number, or_unknown, or_wrong_words, takes_lines, verb_of}
-use Rattle.nova_script.specs.Session.{Surroundings, asked, channel_of, found, idle_task, input_channel, met_by, place_from, unless}
+use Rattle.nova_script.specs.Session.{Surroundings, asked, begun_task, channel_of, found, idle_task, input_channel, met_by, place_from, unless}
 use Rattle.nova_script.specs.declared.command.Command.{Command}
 use Rattle.nova_script.specs.declared.command.Command.TheVariants as c
 use Rattle.nova_script.specs.declared.context.Request.{Request}
@@ -13,7 +13,7 @@ use Rattle.nova_script.specs.declared.context.Request.TheVariants as r
 use Rattle.nova_script.specs.declared.forms.Verb.{Verb}
 use Rattle.nova_script.specs.declared.forms.Verb.TheVariants as v
 use Rattle.nova_script.specs.declared.refusal.Refusal.{Refusal}
-use Rattle.nova_script.specs.declared.refusal.Refusal.TheVariants.{ClockBack, InFlight, LineTooLong, NotAnInputChannel, UnknownChannel, UnknownTask}
+use Rattle.nova_script.specs.declared.refusal.Refusal.TheVariants.{ClockBack, InFlight, LineTooLong, NotAnInputChannel, NotInFlight, UnknownChannel, UnknownTask}
 use Rattle.nova_building.specs.Building.{built_met, built_only}
 use Rattle.nova_machine.proofs.Commanded.{Within, within}
 use Rattle.nova_engine.specs.Loading.{AreMet, IsLoadMet, IsMet}
@@ -62,13 +62,29 @@ ran_met : (x : Surroundings) (place : Option ℕ) → IfSome place (λ p. p < le
 ran_met x None is = tt
 ran_met x (Some n) is = by_flight x n (x.is_in_flight n) refl is
 
+by_idle : (x : Surroundings) (n : ℕ) (b : Bool) → x.is_in_flight n ≡ b → n < length x.tasks → IsMet x (asked r.Begin (if b then Err InFlight else Ok n))
+by_idle x n true is below = tt
+by_idle x n false is below = (below, is)
+
+begun_met : (x : Surroundings) (place : Option ℕ) → IfSome place (λ p. p < length x.tasks) → IsMet x (asked r.Begin (unless x.is_in_flight InFlight (found UnknownTask place)))
+begun_met x None is = tt
+begun_met x (Some n) is = by_idle x n (x.is_in_flight n) refl is
+
+by_begun : (x : Surroundings) (n : ℕ) (b : Bool) → x.is_in_flight n ≡ b → n < length x.tasks → IsMet x (asked r.Drop (if (if b then false else true) then Err NotInFlight else Ok n))
+by_begun x n true is below = (below, is)
+by_begun x n false is below = tt
+
+dropped_met : (x : Surroundings) (place : Option ℕ) → IfSome place (λ p. p < length x.tasks) → IsMet x (asked r.Drop (unless (λ t. if x.is_in_flight t then false else true) NotInFlight (found UnknownTask place)))
+dropped_met x None is = tt
+dropped_met x (Some n) is = by_begun x n (x.is_in_flight n) refl is
+
 command_met : (x : Surroundings) (command : Command) → Within command → AreMet x (met_by x (built_only (Ok (Some command))))
 command_met x (c.Load name) low = loaded_met x (place_from 0 x.channels name) (first_range x.channels name)
 command_met x (c.Tick m) low = ticked_met x m low (nat_lt m x.moment) refl
 command_met x (c.Run name) low = ran_met x (place_from 0 x.tasks name) (first_range x.tasks name)
-command_met x (c.Begin t) low = tt
+command_met x (c.Begin name) low = begun_met x (place_from 0 x.tasks name) (first_range x.tasks name)
 command_met x (c.Finish t) low = tt
-command_met x (c.Drop t) low = tt
+command_met x (c.Drop name) low = dropped_met x (place_from 0 x.tasks name) (first_range x.tasks name)
 command_met x c.Work low = tt
 command_met x (c.Compact name) low = tt
 command_met x (c.Chain name from to) low = tt
@@ -109,6 +125,14 @@ asked_run : (res : Result ℕ Refusal) → IsMetBy false (Some (asked r.Run res)
 asked_run (Ok n) = tt
 asked_run (Err refusal) = tt
 
+asked_begin : (res : Result ℕ Refusal) → IsMetBy false (Some (asked r.Begin res))
+asked_begin (Ok n) = tt
+asked_begin (Err refusal) = tt
+
+asked_drop : (res : Result ℕ Refusal) → IsMetBy false (Some (asked r.Drop res))
+asked_drop (Ok n) = tt
+asked_drop (Err refusal) = tt
+
 asked_tick : (x : Surroundings) (m : ℕ) (b : Bool) → IsMetBy false (Some (if b then Err (ClockBack x.moment) else Ok (r.Tick m)))
 asked_tick x m true = tt
 asked_tick x m false = tt
@@ -121,9 +145,9 @@ request_by : (x : Surroundings) (command : Command) → IsMetBy (is_load_command
 request_by x (c.Load name) = asked_load (input_channel x name)
 request_by x (c.Tick m) = asked_tick x m (nat_lt m x.moment)
 request_by x (c.Run name) = asked_run (idle_task x name)
-request_by x (c.Begin t) = tt
+request_by x (c.Begin name) = asked_begin (idle_task x name)
 request_by x (c.Finish t) = tt
-request_by x (c.Drop t) = tt
+request_by x (c.Drop name) = asked_drop (begun_task x name)
 request_by x c.Work = tt
 request_by x (c.Compact name) = tt
 request_by x (c.Chain name from to) = tt

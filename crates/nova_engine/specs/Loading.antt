@@ -21,11 +21,13 @@ use Rattle.nova_engine.specs.declared.load.Pending.{Pending}
 use Rattle.nova_engine.specs.declared.load.Pending.TheVariants.{Refused, Rows}
 use Rattle.nova_engine.specs.declared.load.Rows.{Rows as KeptRows}
 
--- the numbers of what was met are in range: loads are of channels that no task writes, ticks don't go back, and tasks that are to run aren't in flight
+-- the numbers of what was met are in range: loads are of channels that no task writes, ticks don't go back, tasks that are to run or to begin aren't in flight, and those that are to be dropped are
 abbrev pub IsMet : Surroundings → Result Request Refusal → Type 0
 IsMet x (Ok (r.Load c)) = (c < length x.channels) × (x.has_writer c ≡ false)
 IsMet x (Ok (r.Tick m)) = (x.moment ≤ m) × (m ≤ 2 ^ 62)
 IsMet x (Ok (r.Run t)) = (t < length x.tasks) × (x.is_in_flight t ≡ false)
+IsMet x (Ok (r.Begin t)) = (t < length x.tasks) × (x.is_in_flight t ≡ false)
+IsMet x (Ok (r.Drop t)) = (t < length x.tasks) × (x.is_in_flight t ≡ true)
 IsMet x (Ok (r.Show c)) = c < length x.channels
 IsMet x (Ok _) = ⊥
 IsMet x (Err refusal) = Unit {0}

@@ -6,7 +6,8 @@ use Rattle.nova_machine.specs.State.{State}
 use Rattle.nova_script.specs.Session.{WithRows}
 use Rattle.nova_script.specs.declared.context.Request.{Request}
 use Rattle.nova_script.specs.declared.refusal.Refusal.{Refusal}
-use Rattle.nova_machine.specs.Steps.{Step, Refused, after_all}
+use Rattle.nova_machine.specs.Steps.{Step, Begin, Drop, Refused, after_all}
+use Rattle.nova_machine.specs.Reachable.{IsMade}
 use Rattle.nova_machine.specs.Commands.{met_steps}
 use Rattle.nova_building.specs.Building.{built_steps}
 use Rattle.nova_machine.specs.Replies.{text}
@@ -83,6 +84,13 @@ AsksOne asks s xs = (x : Step) × (xs ≡ x ∷ []) × asks s x
 
 abbrev pub AsksRefused : Refusal → State → Step → Type 0
 AsksRefused refusal s x = x ≡ Refused refusal
+
+-- an execution that begins, and one that is dropped
+abbrev pub AsksBegin : ℕ → State → Step → Type 0
+AsksBegin t s x = (x ≡ Begin t) × IsMade s x
+
+abbrev pub AsksDrop : ℕ → State → Step → Type 0
+AsksDrop t s x = (x ≡ Drop t) × IsMade s x
 
 -- what a command that has no rows met
 abbrev pub AsksMet : Result Request Refusal → State → List Step → Type 0

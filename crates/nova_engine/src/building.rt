@@ -10,7 +10,12 @@ fn is_built(command: &Command) -> bool
 {
     matches!(
         command,
-        Command::Load(_) | Command::Tick(_) | Command::Run(_) | Command::Show(_)
+        Command::Load(_)
+            | Command::Tick(_)
+            | Command::Run(_)
+            | Command::Begin(_)
+            | Command::Drop(_)
+            | Command::Show(_)
     )
 }
 

@@ -1,14 +1,15 @@
 //! The commands on a store, each with its reply.
-ghost use Rattle.std.specs.Prelude.{◌≡◌, ◌^◌, ◌<◌, ◌≤◌, ℕ, true, length, IfOk, Ok};
+ghost use Rattle.std.specs.Prelude.{◌≡◌, ◌^◌, ◌<◌, ◌≤◌, ℕ, true, false, length, IfOk, Ok};
 ghost use Rattle.nova_script.specs.declared.context.Request.TheVariants.{Load as LoadOf};
 ghost use Rattle.nova_machine.specs.Workflow.{is_input, schema_in};
+ghost use Rattle.nova_trigger.specs.Due.{in_flight};
 ghost use Rattle.nova_runner.specs.Around.{around_held};
 ghost use Rattle.nova_runner.specs.Steps.{AsksLoad, AsksRun, AsksShow, AsksTick};
 ghost use Rattle.nova_engine.specs.Damage.{IsReadIn};
 ghost use Rattle.nova_engine.specs.Loading.{IsMet};
 ghost use Rattle.nova_engine.specs.Seen.{seen};
 ghost use Rattle.nova_engine.specs.Stopping.{HasStopCause, RepliesGrow};
-ghost use Rattle.nova_engine.specs.Taking.{Answers, AsksMet, AsksOne, AsksRefused, IsOneStore};
+ghost use Rattle.nova_engine.specs.Taking.{Answers, AsksBegin, AsksDrop, AsksMet, AsksOne, AsksRefused, IsOneStore};
 
 use crate::load::Rows;
 use crate::stop::{Stop, stop_of, stop_of_show};
@@ -77,6 +78,40 @@ fn run<H: Host>(store: Store, alloc: Global, host: &mut H, task: u32) -> Result<
     }
 }
 
+/// Begins an execution of a task, and replies its line. No file has it: it ends with the call.
+fn begin<H: Host>(store: Store, host: &mut H, task: u32) -> Result<Store, Stop>
+    requires task { task < length store.flow.tasks }
+    requires idle { in_flight store.flight task ≡ false }
+    requires in_host { IsReadIn H.is_honest store (H.history host.old) }
+    ensures answers { Answers H.is_honest (AsksOne (AsksBegin task)) store (seen H.Host host.old) (seen H.Host host.new) result }
+    ensures store { IfOk result (IsOneStore H.is_honest store (H.history host.new)) }
+    ensures cause { HasStopCause H.Host host.old host.new result }
+    ensures grows { RepliesGrow H.is_honest (H.history host.old) (H.history host.new) }
+{
+    let mut begun = store;
+    begun.begin(task);
+    let line = Reply::began(begun.task_name(task));
+    send(host, &line)?;
+    Ok(begun)
+}
+
+/// Drops the execution of a task, and replies its line.
+fn drop_run<H: Host>(store: Store, host: &mut H, task: u32) -> Result<Store, Stop>
+    requires task { task < length store.flow.tasks }
+    requires begun { in_flight store.flight task ≡ true }
+    requires in_host { IsReadIn H.is_honest store (H.history host.old) }
+    ensures answers { Answers H.is_honest (AsksOne (AsksDrop task)) store (seen H.Host host.old) (seen H.Host host.new) result }
+    ensures store { IfOk result (IsOneStore H.is_honest store (H.history host.new)) }
+    ensures cause { HasStopCause H.Host host.old host.new result }
+    ensures grows { RepliesGrow H.is_honest (H.history host.old) (H.history host.new) }
+{
+    let mut idle = store;
+    idle.drop_run(task);
+    let line = Reply::dropped(idle.task_name(task));
+    send(host, &line)?;
+    Ok(idle)
+}
+
 /// Replies the rows of a channel, and the line that counts them.
 fn show<H: Host>(store: Store, alloc: Global, host: &mut H, channel: u32) -> Result<Store, Stop>
     requires channel { channel < length store.flow.channels }
@@ -122,6 +157,8 @@ pub fn answer<H: Host>(
     match met {
         Ok(Request::Tick(moment)) => tick(store, host, moment),
         Ok(Request::Run(task)) => run(store, alloc, host, task),
+        Ok(Request::Begin(task)) => begin(store, host, task),
+        Ok(Request::Drop(task)) => drop_run(store, host, task),
         Ok(Request::Show(channel)) => show(store, alloc, host, channel),
         Ok(_) => refused(store, host, Refusal::NotBuilt),
         Err(refusal) => refused(store, host, refusal),

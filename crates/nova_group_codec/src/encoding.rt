@@ -1,7 +1,8 @@
 //! States as bytes.
-ghost use Rattle.std.specs.Prelude.{◌≡◌, ◌++◌, IfOk, OnOk};
+ghost use Rattle.std.specs.Prelude.{◌≡◌, ◌++◌, ◌<◌, ◌^◌, length, IfOk, OnOk};
 ghost use Rattle.std.specs.List.{flat_map};
 ghost use Rattle.std.specs.BTreeMap.{IsOrdered};
+ghost use Rattle.std.specs.FinMap as fin;
 ghost use Rattle.nova_value.specs.Order.{key_cmp, value_cmp};
 ghost use Rattle.nova_row_codec.specs.Spelling.{eight};
 ghost use Rattle.nova_group_codec.specs.Spelling as spec;
@@ -75,6 +76,7 @@ fn put_group(out: &mut Vec<u8>, by: &Key, group: &Group) -> Result<(), AllocErro
 fn put_shares(out: &mut Vec<u8>, shares: &BTreeMap<Key, Share>) -> Result<(), AllocError>
     ensures done { OnOk result (out.new.items ≡ out.old.items ++ spec.list_bytes spec.share_bytes shares.now.entries) }
     ensures ordered { IsOrdered key_cmp shares.now }
+    ensures few { length shares.now.entries < 2 ^ 63 }
 {
     put_number(out, shares.len() as u64)?;
     for (key, share) in shares {
@@ -96,7 +98,8 @@ fn put_groups(out: &mut Vec<u8>, groups: &BTreeMap<Key, Group>) -> Result<(), Al
 
 /// The bytes of a state: its contributions and then its groups, each behind the number of them.
 pub fn encode(alloc: Global, state: &State) -> Result<Vec<u8>, AllocError>
-    ensures { IfOk result (λ bytes. bytes.items ≡ spec.state_bytes state.now) }
+    ensures bytes { IfOk result (λ bytes. bytes.items ≡ spec.state_bytes state.now) }
+    ensures few { IfOk result (λ _. fin.len state.now.shares < 2 ^ 63) }
 {
     let mut out = Vec::new(alloc);
     put_shares(&mut out, state.shares())?;

@@ -13,6 +13,6 @@ mod state;
 pub use encoding::encode;
 pub use fault::StateFault;
 pub use laws::states_are_spelled_once;
-pub use pieces::sorts_of;
+pub use pieces::{kind_at, kinds_at, sorts_of};
 pub use sorts::{Kept, Sorts};
 pub use state::decode;

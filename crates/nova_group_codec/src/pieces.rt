@@ -10,7 +10,8 @@ use nova_pig_tree::CallKind;
 use nova_value::Kind;
 use std::alloc::{AllocError, Global};
 
-fn kind_at(kinds: &[Kind], place: u32) -> Kind
+/// The kind of a column, and that of the number 0 beyond the last.
+pub fn kind_at(kinds: &[Kind], place: u32) -> Kind
     ensures { result ≡ spec.kind_at kinds.now place }
 {
     match kinds.get(place as usize) {
@@ -42,7 +43,7 @@ fn kept_of(kinds: &[Kind], call: Call) -> Option<Kept>
 }
 
 /// The kinds of these columns.
-fn kinds_at(alloc: Global, kinds: &[Kind], columns: &[u32]) -> Result<Vec<Kind>, AllocError>
+pub fn kinds_at(alloc: Global, kinds: &[Kind], columns: &[u32]) -> Result<Vec<Kind>, AllocError>
     ensures { IfOk result (λ ks. ks.items ≡ map (spec.kind_at kinds.now) columns.now) }
 {
     let mut all = Vec::with_capacity(alloc, columns.len())?;

@@ -34,6 +34,7 @@ impl Model for Sorts {
 }
 
 impl Sorts {
+    /// The sorts of a task. Each is taken as it comes: whether they are a plan's is the caller's.
     pub fn new(key: Vec<Kind>, by: Vec<Kind>, kept: Vec<Kept>) -> Sorts
         ensures { result ≡ record { key = key.items; by = by.items; kept = kept.items } }
     {

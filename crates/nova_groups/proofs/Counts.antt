@@ -41,7 +41,7 @@ or_second false b e = e
 up_is : (n : ℕ) → n + 1 < 2 ^ 64 → up n ≡ n + 1
 up_is n h = omega (arith, h)
 
-number-length : (q : Value) (vs : List Value) → number q vs ≤ length vs
+pub number-length : (q : Value) (vs : List Value) → number q vs ≤ length vs
 number-length q [] = omega arith
 number-length q (v ∷ vs) = by_test (eq_by_cmp value_cmp q v) (number-length q vs)
   where

@@ -77,59 +77,62 @@ module _ (share : List Value → Option Share) (ks : List CallKind) where
   values-step rows k front back puts gone (Put row) = puts row
   values-step rows k front back puts gone (Removal key) = gone
 
-  length-filter_map : (rows : List (List Value)) → length (filter_map share rows) ≤ length rows
-  length-filter_map [] = omega arith
-  length-filter_map (row ∷ rows) = by_share (share row) (length-filter_map rows)
-    where
-      by_share : (o : Option Share) → length (filter_map share rows) ≤ length rows → length (cons_option o (filter_map share rows)) ≤ suc (length rows)
-      by_share None h = omega (arith, h)
-      by_share (Some s) h = omega (arith, h)
-
-  shorter : (front back : List (List Value)) → length (filter_map share front ++ filter_map share back) ≤ length (front ++ back)
-  shorter front back = omega (arith, length-append (filter_map share front) (filter_map share back), length-append front back, length-filter_map front, length-filter_map back)
-
-  around_short : (front back : List (List Value)) (o : Option (List Value)) → length (front ++ back) ≤ length (front ++ (one o ++ back))
+  around_short : {X : Type 0} (front back : List X) (o : Option X) → length (front ++ back) ≤ length (front ++ (one o ++ back))
   around_short front back None = omega arith
-  around_short front back (Some row) = omega (arith, length-append front back, length-append front (row ∷ back))
+  around_short front back (Some x) = omega (arith, length-append front back, length-append front (x ∷ back))
 
-  step_short : (front back : List (List Value)) (o n : Option (List Value)) → length (front ++ (one n ++ back)) ≤ length (front ++ (one o ++ back)) + 1
+  step_short : {X : Type 0} (front back : List X) (o n : Option X) → length (front ++ (one n ++ back)) ≤ length (front ++ (one o ++ back)) + 1
   step_short front back o None = omega (arith, around_short front back o)
-  step_short front back o (Some row) = omega (arith, around_short front back o, length-append front back, length-append front (row ∷ back))
+  step_short front back o (Some x) = omega (arith, around_short front back o, length-append front back, length-append front (x ∷ back))
 
-  values_short : (rows : RowMap) (k : List Value) (e : Entry) → length (values (step rows k e)) ≤ length (values rows) + 1
-  values_short rows k e =
+  -- what the rows give around a key, before an entry and behind it
+  shares_were : (rows : RowMap) (k : List Value) → (let a = around key_cmp keys_total exact_keys k rows in
+      shares_of share rows ≡ filter_map share a.prefix ++ (one (get (share_map share rows) k) ++ filter_map share a.suffix))
+  shares_were rows k =
       let a = around key_cmp keys_total exact_keys k rows in
-      omega (arith, step_short a.prefix a.suffix (get rows k) (row_put e), ap length a.now, ap length (values-step rows k a.prefix a.suffix a.put a.gone e))
+      ap (filter_map share) a.now ∙ filter_map-one a.prefix a.suffix (get rows k)
+      ∙ ap (λ (o : Option Share). filter_map share a.prefix ++ (one o ++ filter_map share a.suffix)) (sym (get-share_map share rows k))
 
-  groups-step : (rows : RowMap) (k : List Value) (e : Entry) → length (values rows) + 1 < 2 ^ 64
+  shares_become : (rows : RowMap) (k : List Value) (e : Entry) → (let a = around key_cmp keys_total exact_keys k rows in
+      shares_of share (step rows k e) ≡ filter_map share a.prefix ++ (one (and_then (row_put e) share) ++ filter_map share a.suffix))
+  shares_become rows k e =
+      let a = around key_cmp keys_total exact_keys k rows in
+      ap (filter_map share) (values-step rows k a.prefix a.suffix a.put a.gone e) ∙ filter_map-one a.prefix a.suffix (row_put e)
+
+  shares_short : (rows : RowMap) (k : List Value) (e : Entry) → length (shares_of share (step rows k e)) ≤ length (shares_of share rows) + 1
+  shares_short rows k e =
+      let a = around key_cmp keys_total exact_keys k rows in
+      let before = ap (λ (ss : List Share). length ss) (shares_were rows k) in
+      let behind = ap (λ (ss : List Share). length ss) (shares_become rows k e) in
+      omega (arith, step_short (filter_map share a.prefix) (filter_map share a.suffix) (get (share_map share rows) k) (and_then (row_put e) share), before, behind)
+
+  groups-step : (rows : RowMap) (k : List Value) (e : Entry) → length (shares_of share rows) + 1 < 2 ^ 64
       → groups ks (shares_of share (step rows k e)) ≡ join ks (leave ks (groups ks (shares_of share rows)) (get (share_map share rows) k)) (and_then (row_put e) share)
   groups-step rows k e short =
       let a = around key_cmp keys_total exact_keys k rows in
       let front = filter_map share a.prefix in
       let back = filter_map share a.suffix in
-      let was : shares_of share rows ≡ front ++ (one (get (share_map share rows) k) ++ back) =
-      ap (filter_map share) a.now ∙ filter_map-one a.prefix a.suffix (get rows k) ∙ ap (λ (o : Option Share). front ++ (one o ++ back)) (sym (get-share_map share rows k)) in
-      let becomes : shares_of share (step rows k e) ≡ front ++ (one (and_then (row_put e) share) ++ back) =
-      ap (filter_map share) (values-step rows k a.prefix a.suffix a.put a.gone e) ∙ filter_map-one a.prefix a.suffix (row_put e) in
-      ap (groups ks) becomes
-      ∙ sym (join-one front back (and_then (row_put e) share) (omega (arith, short, shorter a.prefix a.suffix, around_short a.prefix a.suffix (get rows k), ap length a.now)))
+      let old = get (share_map share rows) k in
+      let before = ap (λ (ss : List Share). length ss) (shares_were rows k) in
+      ap (groups ks) (shares_become rows k e)
+      ∙ sym (join-one front back (and_then (row_put e) share) (omega (arith, short, before, around_short front back old)))
       ∙ ap (λ (gs : GroupMap). join ks gs (and_then (row_put e) share))
-      (sym (ap (λ (ss : List Share). leave ks (groups ks ss) (get (share_map share rows) k)) was ∙ leave-one front back (get (share_map share rows) k)))
+      (sym (ap (λ (ss : List Share). leave ks (groups ks ss) old) (shares_were rows k) ∙ leave-one front back old))
 
   -- one entry
-  pub state_step : (rows : RowMap) (k : List Value) (e : Entry) → length (values rows) + 1 < 2 ^ 64 → state_of share ks (step rows k e) ≡ moved ks (state_of share ks rows) k (and_then (row_put e) share)
+  pub state_step : (rows : RowMap) (k : List Value) (e : Entry) → length (shares_of share rows) + 1 < 2 ^ 64 → state_of share ks (step rows k e) ≡ moved ks (state_of share ks rows) k (and_then (row_put e) share)
   state_step rows k e short =
       let shares = share_map-step rows k e in
       let grouped = groups-step rows k e short in
       λ i. record { shares = shares i; groups = grouped i }
 
   -- entries in turn
-  pub state_applied : (rows : RowMap) (es : List (List Value × Entry)) → length (values rows) + length es < 2 ^ 64 → state_of share ks (applied rows es) ≡ moved_all share ks (state_of share ks rows) es
+  pub state_applied : (rows : RowMap) (es : List (List Value × Entry)) → length (shares_of share rows) + length es < 2 ^ 64 → state_of share ks (applied rows es) ≡ moved_all share ks (state_of share ks rows) es
   state_applied rows [] short = refl
   state_applied rows (e ∷ es) short =
-      state_applied (step rows e.0 e.1) es (omega (arith, short, values_short rows e.0 e.1))
+      state_applied (step rows e.0 e.1) es (omega (arith, short, shares_short rows e.0 e.1))
       ∙ ap (λ (st : StateValue). moved_all share ks st es) (state_step rows e.0 e.1 (omega (arith, short)))
 
   -- a whole delta
-  pub state_merged : (rows : RowMap) (es : List (List Value × Entry)) → IsStrictlySortedBy key_cmp (keys_of es) → length (values rows) + length es < 2 ^ 64 → moved_all share ks (state_of share ks rows) es ≡ state_of share ks (merged rows (entry_map es))
+  pub state_merged : (rows : RowMap) (es : List (List Value × Entry)) → IsStrictlySortedBy key_cmp (keys_of es) → length (shares_of share rows) + length es < 2 ^ 64 → moved_all share ks (state_of share ks rows) es ≡ state_of share ks (merged rows (entry_map es))
   state_merged rows es sorted short = sym (state_applied rows es short) ∙ ap (state_of share ks) (applied-merged rows es sorted)

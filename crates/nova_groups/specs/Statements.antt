@@ -7,12 +7,12 @@ use Rattle.nova_value.specs.declared.schema.Entry.{Entry}
 use Rattle.nova_delta.specs.Merge.{RowMap, EntryMap, merged}
 use Rattle.nova_pig_tree.specs.declared.expression.CallKind.{CallKind}
 use Rattle.nova_groups.specs.declared.group.Share.{Share}
-use Rattle.nova_groups.specs.State.{StateValue, state_of, moved, moved_all, touches}
+use Rattle.nova_groups.specs.State.{StateValue, share_map, state_of, moved, moved_all, touches}
 use Rattle.nova_groups.specs.Parts.{part_of, moved_part}
 
--- the entries of a delta, one key's change after the other, lead from the state of a table to that of the merged table
+-- the entries of a delta, one key's change after the other, lead from the state of a table to that of the merged table, where no number of members can pass its type's end
 abbrev pub StatesFollowDeltas : Type 0
-StatesFollowDeltas = (share : List Value → Option Share) (ks : List CallKind) (m : RowMap) (d : EntryMap) → len m + len d < 2 ^ 64
+StatesFollowDeltas = (share : List Value → Option Share) (ks : List CallKind) (m : RowMap) (d : EntryMap) → len (share_map share m) + len d < 2 ^ 64
     → moved_all share ks (state_of share ks m) (entries d) ≡ state_of share ks (merged m d)
 
 -- one key's change is a change of each part by itself, which needs of the others the key's old share at most

@@ -1,5 +1,5 @@
 //! The state: contributions by input key, groups by BY values.
-ghost use Rattle.std.specs.Prelude.{◌≡◌, ◌++◌, IfOk, OnOk, Some, option_copied};
+ghost use Rattle.std.specs.Prelude.{◌≡◌, ◌++◌, ◌<◌, ◌^◌, IfOk, OnOk, Some, option_copied};
 ghost use Rattle.std.specs.Option.{option_map};
 ghost use Rattle.std.specs.FinMap as fin;
 ghost use Rattle.nova_groups.specs.State as spec;
@@ -54,6 +54,14 @@ impl State {
         ensures { share_seen result.now.entries ≡ self.now.shares }
     {
         &self.shares
+    }
+
+    /// How many shares there are.
+    pub fn share_count(&self) -> usize
+        ensures count { result ≡ fin.len self.now.shares }
+        ensures small { result < 2 ^ 63 }
+    {
+        self.shares.len()
     }
 
     /// The groups by BY values.

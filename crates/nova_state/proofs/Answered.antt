@@ -21,7 +21,7 @@ use Rattle.nova_pig_algebra.specs.Plan.{Plan, IsPlan, tree_of_plan}
 use Rattle.nova_pig_algebra.specs.Statements.{In, AllFit, TablesFit, NodesFitTheirKinds}
 use Rattle.nova_admit.specs.Shaped.{IsGroupPlan}
 use Rattle.nova_groups.specs.State.{groups, shares_of, and_then, row_put}
-use Rattle.nova_state.specs.Rule.{GroupRule, Depends, share_of, kepts, bys, touched, answers, changes, entry_of, row_at, row_of, row_from, den}
+use Rattle.nova_state.specs.Rule.{GroupRule, Depends, share_of, kepts, bys, touched, answers, changes, entry_of, row_at, row_of, row_from, rows_made}
 use Rattle.nova_state.specs.Plan.{parts, or_nothing, rule_of, out_key}
 use Rattle.nova_state.specs.Fit.{is_of, fit}
 use Rattle.nova_state.specs.Advance.{state_of, answer_of, answer_entry, fits_entry, delta_of, IsInputTable}
@@ -98,8 +98,8 @@ row_given p m by row e = go (list_any (eq by) (map (key_at p.columns) (filter_ma
     go true a e = record { any = a; theirs = e }
     go false a e = absurd cc
 
-row_in_den : (p : GroupRule) (m : RowMap) (by row : Row) → Given p m by row → In row (den p m)
-row_in_den p m by row g =
+row_is_made : (p : GroupRule) (m : RowMap) (by row : Row) → Given p m by row → In row (rows_made p m)
+row_is_made p m by row g =
     let rows = filter_map p.chain (values m) in
     let bys : List Row = map (key_at p.columns) rows in
     in_given (λ b. row_of p b (members p.columns rows b)) by row (rising bys) (in_list by (rising bys) (any-keys by bys ∙ g.any)) g.theirs
@@ -118,7 +118,7 @@ module _ (nodes_fit : NodesFitTheirKinds) (p : Plan) (is : IsPlan p) (group : Is
   row_fits : (by row : Row) → row_at (rule_of p) New by ≡ Some row → FitsRow p.output row
   row_fits by row e =
       nodes_fit p is is.kinded.all is.kinded.nodes (values New ∷ []) (input_fits (values New) new_fits) p.stored (kinds p.output.columns) is.kinded.stored row
-      (subst (In row) (sym (rows_are_grouped p group.shape New)) (row_in_den (rule_of p) New by row (row_given (rule_of p) New by row e)))
+      (subst (In row) (sym (rows_are_grouped p group.shape New)) (row_is_made (rule_of p) New by row (row_given (rule_of p) New by row e)))
 
   -- the output key of the group of a row
   key_fits_of : (row r : Row) → FitsRow m.schema row → (rule_of p).chain row ≡ Some r → FitsKey p.output (out_key p (key_at (rule_of p).columns r))

@@ -16,11 +16,11 @@ use Rattle.nova_pig_algebra.specs.Plan.{Plan}
 use Rattle.nova_admit.specs.Shaped.{IsGroupPlan}
 use Rattle.nova_groups.specs.State.{row_put}
 use Rattle.nova_state.specs.Plan.{rule_of, out_key}
-use Rattle.nova_state.specs.Rule.{den, bys, touched, entry_of, row_at, changes}
+use Rattle.nova_state.specs.Rule.{rows_made, bys, touched, entry_of, row_at, changes}
 use Rattle.nova_state.specs.Advance.{stored, written, delta_of}
 use Rattle.nova_state.specs.Statements.{GroupsMerge}
 use Rattle.nova_state.proofs.ByPlaces.{by_of, by_back, given_key}
-use Rattle.nova_state.proofs.Delta.{eq, eq_is, or_cases, any_in, back-bys, find-made, map-made, get-den, get-changes, den-changes}
+use Rattle.nova_state.proofs.Delta.{eq, eq_is, or_cases, any_in, back-bys, find-made, map-made, get-made, get-changes, made-changes}
 use Rattle.nova_state.proofs.GroupKeys.{keys_written}
 use Rattle.nova_state.proofs.Tables.{rows_are_grouped}
 
@@ -58,7 +58,7 @@ module _ (p : Plan) (is : IsGroupPlan p) where
   get-stored : (m : RowMap) (q : Row) → get (stored p m).rows q ≡ cond (eq q (out_key p (by_of p q))) (row_at (rule_of p) m (by_of p q)) None
   get-stored m q =
       ap (λ (rs : List Row). get (row_map (keyed p.output.key rs)) q) (rows_are_grouped p is.shape m)
-      ∙ get-den (rule_of p) p.output.key (out_key p) (by_of p) (by_back p is) (given_key p is) m q
+      ∙ get-made (rule_of p) p.output.key (out_key p) (by_of p) (by_back p is) (given_key p is) m q
 
   pub changes_block : (m : RowMap) (d : EntryMap) → changes (rule_of p) (out_key p) m d ≡ tabulated (written p m (entries d)) (λ q. Some (entry_of q (get (stored p (merged m d)).rows q)))
   changes_block m d = same_entries _ _ (λ q.
@@ -79,14 +79,14 @@ module _ (p : Plan) (is : IsGroupPlan p) where
   unfolding delta_of
   delta_is m d = let es = changes_block m d in λ i. record { schema = p.output; entries = es i }
 
-  stored_den : (m : RowMap) → (stored p m).rows ≡ row_map (keyed p.output.key (den (rule_of p) m))
-  stored_den m = ap (λ (rs : List Row). row_map (keyed p.output.key rs)) (rows_are_grouped p is.shape m)
+  stored_is_made : (m : RowMap) → (stored p m).rows ≡ row_map (keyed p.output.key (rows_made (rule_of p) m))
+  stored_is_made m = ap (λ (rs : List Row). row_map (keyed p.output.key rs)) (rows_are_grouped p is.shape m)
 
 pub groups_merge : GroupsMerge
 groups_merge p is m d =
     let delta : (delta_of p m d).entries ≡ changes (rule_of p) (out_key p) m d = ap (λ (e : DeltaValue). e.entries) (sym (delta_is p is m d)) in
     let rows : merged (stored p m).rows (delta_of p m d).entries ≡ (stored p (merged m d)).rows =
-    (λ i. merged (stored_den p is m i) (delta i))
-    ∙ den-changes (rule_of p) p.output.key (out_key p) (by_of p) (by_back p is) (given_key p is) m d
-    ∙ sym (stored_den p is (merged m d)) in
+    (λ i. merged (stored_is_made p is m i) (delta i))
+    ∙ made-changes (rule_of p) p.output.key (out_key p) (by_of p) (by_back p is) (given_key p is) m d
+    ∙ sym (stored_is_made p is (merged m d)) in
     λ i. record { schema = p.output; rows = rows i }

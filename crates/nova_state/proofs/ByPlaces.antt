@@ -161,7 +161,7 @@ whole_row (Join left left_by right right_by) by f = []
 whole_row (Union arms) by f = []
 whole_row (Distinct from) by f = []
 
-kept_is : (c : PlanExpr) (o : Option Row) (row : Row) → kept c o ≡ Some row → o ≡ Some row
+pub kept_is : (c : PlanExpr) (o : Option Row) (row : Row) → kept c o ≡ Some row → o ≡ Some row
 kept_is c None row e = absurd cc
 kept_is c (Some r) row e = go (holds c r no_calls) e
   where
@@ -169,7 +169,7 @@ kept_is c (Some r) row e = go (holds c r no_calls) e
     go true e = e
     go false e = absurd cc
 
-remade_is : (items : List PlanExpr) (o : Option Row) (row : Row) → remade items o ≡ Some row → (r : Row) × (o ≡ Some r) × (row ≡ made items r no_calls)
+pub remade_is : (items : List PlanExpr) (o : Option Row) (row : Row) → remade items o ≡ Some row → (r : Row) × (o ≡ Some r) × (row ≡ made items r no_calls)
 remade_is items None row e = absurd cc
 remade_is items (Some r) row e = let same : made items r no_calls ≡ row = cc in (r, refl, sym same)
 

@@ -20,7 +20,7 @@ use Rattle.nova_groups.specs.State.{and_then, row_put}
 use Rattle.nova_delta.proofs.Mapped.{same_kept}
 use Rattle.nova_pig_algebra.specs.Tree.{rising, members}
 use Rattle.nova_pig_algebra.specs.Meaning.{Calls}
-use Rattle.nova_state.specs.Rule.{GroupRule, row_of, den, bys, touched, entry_of, row_at, changes}
+use Rattle.nova_state.specs.Rule.{GroupRule, row_of, rows_made, bys, touched, entry_of, row_at, changes}
 use Rattle.nova_state.proofs.Rows.{is_cons, row_at-members}
 
 abbrev pub eq : List Value → List Value → Bool
@@ -167,12 +167,12 @@ module _ (p : GroupRule) (key : List ℕ) (key_of by_of : List Value → List Va
       by_value (Some row) is h = λ i. (at g row is i, row) ∷ h i
 
   -- the table of the plan's rows, at each key
-  pub get-den : (m : RowMap) (q : List Value) → get (row_map (keyed key (den p m))) q ≡ cond (eq q (key_of (by_of q))) (row_at p m (by_of q)) None
-  get-den m q =
+  pub get-made : (m : RowMap) (q : List Value) → get (row_map (keyed key (rows_made p m))) q ≡ cond (eq q (key_of (by_of q))) (row_at p m (by_of q)) None
+  get-made m q =
       let rows = filter_map p.chain (values m) in
       let row : List Value → Option (List Value) = λ by. row_of p by (members p.columns rows by) in
       let all : List (List Value) = map (key_at p.columns) rows in
-      get-from_entries keys_total (keyed key (den p m)) q
+      get-from_entries keys_total (keyed key (rows_made p m)) q
       ∙ ap (find key_cmp q) (keyed-made row (λ g r is. at_key g _ r is) (rising all))
       ∙ find-made key_of by_of row q (rising all) (λ g any. back-rows g rows (sym (any-keys g all) ∙ any))
       ∙ ap (λ b. cond b (cond (eq q (key_of (by_of q))) (row (by_of q)) None) None) (any-keys (by_of q) all)
@@ -252,13 +252,13 @@ module _ (p : GroupRule) (key : List ℕ) (key_of by_of : List Value → List Va
       ∙ sym (row_at-members p (merged m d) g)
 
   -- merged into the table of the old rows it gives the table of the new rows
-  pub den-changes : (m : RowMap) (d : EntryMap) → merged (row_map (keyed key (den p m))) (changes p key_of m d) ≡ row_map (keyed key (den p (merged m d)))
-  den-changes m d = same_rows _ _ (λ q.
-      get-merged (row_map (keyed key (den p m))) (changes p key_of m d) q
-      ∙ ap (λ (o : Option Entry). after o (get (row_map (keyed key (den p m))) q)) (get-changes m d q)
-      ∙ ap (after (cond (list_any (eq (by_of q)) (touched p m (entries d))) (cond (eq q (key_of (by_of q))) (Some (entry_of (key_of (by_of q)) (row_at p (merged m d) (by_of q)))) None) None)) (get-den m q)
+  pub made-changes : (m : RowMap) (d : EntryMap) → merged (row_map (keyed key (rows_made p m))) (changes p key_of m d) ≡ row_map (keyed key (rows_made p (merged m d)))
+  made-changes m d = same_rows _ _ (λ q.
+      get-merged (row_map (keyed key (rows_made p m))) (changes p key_of m d) q
+      ∙ ap (λ (o : Option Entry). after o (get (row_map (keyed key (rows_made p m))) q)) (get-changes m d q)
+      ∙ ap (after (cond (list_any (eq (by_of q)) (touched p m (entries d))) (cond (eq q (key_of (by_of q))) (Some (entry_of (key_of (by_of q)) (row_at p (merged m d) (by_of q)))) None) None)) (get-made m q)
       ∙ by_test (by_of q) (eq q (key_of (by_of q))) (list_any (eq (by_of q)) (touched p m (entries d))) refl
-      ∙ sym (get-den (merged m d) q))
+      ∙ sym (get-made (merged m d) q))
     where
       put : (k : List Value) (o r : Option (List Value)) → after (Some (entry_of k o)) r ≡ o
       put k None r = refl

@@ -18,19 +18,9 @@ use Rattle.nova_pig_algebra.proofs.KindsOfNodes.{filter_from, foreach_from}
 use Rattle.nova_pig_algebra.proofs.KindsOfValues.{AllOf, made_fits, over_row}
 use Rattle.nova_pig_pattern.specs.OutputKeys.{all_groups}
 use Rattle.nova_pig_pattern.specs.Shapes.{IsGrouped}
+use Rattle.nova_state.proofs.KindsInTurn.{at_end, overs_stay}
 
 -- ---- lists that grow
-still_there : {X : Type 0} (xs : List X) (y : X) (k : ℕ) (x : X) → slice_get xs k ≡ Some x → slice_get (xs ++ y ∷ []) k ≡ Some x
-still_there [] y k x e = absurd cc
-still_there (z ∷ xs) y zero x e = e
-still_there (z ∷ xs) y (suc k) x e = still_there xs y k x e
-
-at_end : {X : Type 0} (xs : List X) (y : X) (n : ℕ) → length xs ≡ n → slice_get (xs ++ y ∷ []) n ≡ Some y
-at_end [] y zero e = refl
-at_end [] y (suc n) e = absurd cc
-at_end (x ∷ xs) y zero e = absurd cc
-at_end (x ∷ xs) y (suc n) e = at_end xs y n (omega arith)
-
 tree_last : (done : List Tree) (t : Tree) (n : ℕ) → length done ≡ n → tree_at (done ++ t ∷ []) n ≡ t
 tree_last [] t zero e = refl
 tree_last [] t (suc n) e = absurd cc
@@ -125,15 +115,6 @@ module _ (p : Plan) (is : IsPlan p) (tables : List (List Row)) (nodes_fit : (k :
     node_says (node.Union arms) here h o e at = none (Union (arms_at done arms)) (λ w. w) o
     node_says (node.Distinct from) here h o e at = none (Distinct (tree_at done from)) (λ w. w) o
 
-  overs_stay : (rest : List Node) (overs : List Over) (all : List Over) → nodes_over Inputs overs rest ≡ Some all → (k : ℕ) (o : Over) → slice_get overs k ≡ Some o → slice_get all k ≡ Some o
-  overs_stay [] overs all e k o at = let same : overs ≡ all = cc in subst (λ z. slice_get z k ≡ Some o) same at
-  overs_stay (n ∷ rest) overs all e k o at = step (node_over Inputs overs n) e (λ q f. overs_stay rest (overs ++ q ∷ []) all f k o (still_there overs q k o at))
-    where
-      step : (x : Option Over) → and_then x (λ q. nodes_over Inputs (overs ++ q ∷ []) rest) ≡ Some all
-          → ((q : Over) → nodes_over Inputs (overs ++ q ∷ []) rest ≡ Some all → slice_get all k ≡ Some o) → slice_get all k ≡ Some o
-      step None f go = absurd cc
-      step (Some q) f go = go q f
-
   all_sound : (rest : List Node) (done : List Tree) (overs : List Over) → Sound done overs → nodes_have_values rest ≡ true → trees p.nodes ≡ trees_after p.nodes done rest
       → nodes_over Inputs overs rest ≡ Some is.kinded.all → Sound (trees p.nodes) is.kinded.all
   unfolding trees_after
@@ -144,7 +125,7 @@ module _ (p : Plan) (is : IsPlan p) (tables : List (List Row)) (nodes_fit : (k :
       let has = both_true (node_has_values n) (nodes_have_values rest) h in
       let here : tree_at (trees p.nodes) (length overs) ≡ tree_of p.nodes done n = ap (λ ts. tree_at ts (length overs)) whole ∙ next_tree p.nodes n rest done (length overs) s.same in
       step (node_over Inputs overs n) refl e (λ o a f.
-      let at = overs_stay rest (overs ++ o ∷ []) is.kinded.all f (length overs) o (at_end overs o (length overs) refl) in
+      let at = overs_stay Inputs rest (overs ++ o ∷ []) is.kinded.all f (length overs) o (at_end overs o (length overs) refl) in
       all_sound rest (done ++ tree_of p.nodes done n ∷ []) (overs ++ o ∷ []) (one_more done overs s (tree_of p.nodes done n) o (node_says done overs s n here has.0 o a at)) has.1 whole f)
     where
       step : (x : Option Over) → node_over Inputs overs n ≡ x → and_then x (λ o. nodes_over Inputs (overs ++ o ∷ []) rest) ≡ Some is.kinded.all

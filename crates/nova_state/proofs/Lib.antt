@@ -1,5 +1,6 @@
 pub mod CallsInTurn
 pub mod PlanNodes
+pub mod KindsOfChains
 pub mod PlanFacts
 pub mod Rows
 pub mod Depends
@@ -7,8 +8,13 @@ pub mod Delta
 pub mod Tables
 pub mod ByPlaces
 pub mod GroupKeys
+pub mod KindsInTurn
 pub mod GroupsFit
 pub mod Blocks
 pub mod Whole
 pub mod WholeStates
 pub mod Answered
+pub mod KindsOfCalls
+pub mod SourcesFit
+pub mod AllEntries
+pub mod StatesFit

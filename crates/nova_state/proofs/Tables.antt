@@ -11,7 +11,7 @@ use Rattle.nova_pig_algebra.specs.Tree.{Tree, Nothing, Load, Filter, Foreach, Gr
 use Rattle.nova_pig_algebra.specs.Plan.{Plan, tree_of_plan, rows_of}
 use Rattle.nova_pig_pattern.specs.Shapes.{IsChain, IsGrouped}
 use Rattle.nova_pig_rows.specs.ChainRows.{kept, remade, chain_row}
-use Rattle.nova_state.specs.Rule.{den, row_of}
+use Rattle.nova_state.specs.Rule.{rows_made, row_of}
 use Rattle.nova_state.specs.Plan.{parts, or_nothing, rule_of_tree, rule_of}
 
 all_given : (xs : List Row) → filter_map (λ (row : Row). let o : Option Row = Some row in o) xs ≡ xs
@@ -65,18 +65,18 @@ Bys t m = rising (map (key_at (or_nothing (parts t)).columns) (Source t m))
 abbrev Given : Tree → RowMap → Row → Option Row
 Given t m by = row_of (rule_of_tree t) by (members (or_nothing (parts t)).columns (Source t m) by)
 
-den_is : (t : Tree) (m : RowMap) → IsGrouped 0 t → rows t (values m ∷ []) ≡ den (rule_of_tree t) m
-den_is (Grouped from columns items) m is =
+made_is : (t : Tree) (m : RowMap) → IsGrouped 0 t → rows t (values m ∷ []) ≡ rows_made (rule_of_tree t) m
+made_is (Grouped from columns items) m is =
     ap (λ (rs : List Row). map (λ by. made items by (calls_over (members columns rs by))) (rising (map (key_at columns) rs))) (chains_map 0 from is (values m ∷ []))
     ∙ sym (all_some (λ by. made items by (calls_over (members columns (Source (Grouped from columns items) m) by))) (Bys (Grouped from columns items) m))
-den_is (Filter from c) m is = ap (filter (λ row. holds c row no_calls)) (den_is from m is) ∙ passing (Given from m) c (Bys from m)
-den_is (Foreach from items) m is = ap (map (λ row. made items row no_calls)) (den_is from m is) ∙ making (Given from m) items (Bys from m)
-den_is Nothing m is = absurd is
-den_is (Load input) m is = absurd is
-den_is (Join left left_by right right_by) m is = absurd is
-den_is (Union arms) m is = absurd is
-den_is (Distinct from) m is = absurd is
+made_is (Filter from c) m is = ap (filter (λ row. holds c row no_calls)) (made_is from m is) ∙ passing (Given from m) c (Bys from m)
+made_is (Foreach from items) m is = ap (map (λ row. made items row no_calls)) (made_is from m is) ∙ making (Given from m) items (Bys from m)
+made_is Nothing m is = absurd is
+made_is (Load input) m is = absurd is
+made_is (Join left left_by right right_by) m is = absurd is
+made_is (Union arms) m is = absurd is
+made_is (Distinct from) m is = absurd is
 
-pub rows_are_grouped : (p : Plan) → IsGrouped 0 (tree_of_plan p) → (m : RowMap) → rows_of p (values m ∷ []) ≡ den (rule_of p) m
+pub rows_are_grouped : (p : Plan) → IsGrouped 0 (tree_of_plan p) → (m : RowMap) → rows_of p (values m ∷ []) ≡ rows_made (rule_of p) m
 unfolding rule_of
-rows_are_grouped p is m = den_is (tree_of_plan p) m is
+rows_are_grouped p is m = made_is (tree_of_plan p) m is

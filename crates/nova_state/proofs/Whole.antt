@@ -6,7 +6,7 @@ use Rattle.std.specs.Ordering.{eq_by_cmp, is_eq, ordering_reverse}
 use Rattle.std.specs.List.{AllByRecursion}
 use Rattle.std.specs.List.Sorted.{IsStrictlySortedBy}
 use Rattle.std.specs.Map.{keys_of}
-use Rattle.std.specs.Prelude.{true, if◌then◌else◌}
+use Rattle.std.specs.Prelude.{Bool, true, if◌then◌else◌}
 use Rattle.std.specs.FinMap.{get, insert, entries, entries_sorted, len}
 use Rattle.nova_value.specs.Rows.{Shape}
 use Rattle.nova_value.specs.Entries.{entry_key}
@@ -81,7 +81,7 @@ map-same f g h [] = refl
 map-same f g h (x ∷ xs) = λ i. h x i ∷ map-same f g h xs i
 
 -- the state of the changed table
-pub state_changes : (p : GroupRule) (m : RowMap) (d : EntryMap) → len m + len d < 2 ^ 64
+pub state_changes : (p : GroupRule) (m : RowMap) (d : EntryMap) → len (share_map (share_of p) m) + len d < 2 ^ 64
     → moved_all (share_of p) (kepts p) (state_of (share_of p) (kepts p) m) (entries d) ≡ state_of (share_of p) (kepts p) (merged m d)
 state_changes p m d h = states_follow_deltas (share_of p) (kepts p) m d h
 
@@ -107,3 +107,15 @@ pub answer_all-push : (s : Shape) (p : GroupRule) (key_of : Row → Row) (gs : G
     → answer_all s p key_of gs d (bys ++ by ∷ []) ≡ answer_all s p key_of gs (answered d (answer_entry p key_of gs by)) bys
 answer_all-push s p key_of gs d [] by = refl
 answer_all-push s p key_of gs d (b ∷ bys) by = ap (λ (e : DeltaValue). answered e (answer_entry p key_of gs b)) (answer_all-push s p key_of gs d bys by)
+
+-- the schema stays
+answered_schema : (d : DeltaValue) (e : Entry) → (answered d e).schema ≡ d.schema
+answered_schema d e = go (fits_entry d.schema e)
+  where
+    go : (b : Bool) → (if b then with_entry d e else d).schema ≡ d.schema
+    go true = refl
+    go false = refl
+
+pub answer_schema : (s : Shape) (p : GroupRule) (key_of : Row → Row) (gs : GroupMap) (bys : List Row) → (answer_of s p key_of gs bys).schema ≡ s
+answer_schema s p key_of gs [] = refl
+answer_schema s p key_of gs (by ∷ bys) = answered_schema (answer_of s p key_of gs bys) (answer_entry p key_of gs by) ∙ answer_schema s p key_of gs bys

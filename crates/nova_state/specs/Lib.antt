@@ -2,6 +2,7 @@
 pub mod Rule
 pub mod Plan
 pub mod Advance
+pub mod Sorts
 pub mod Statements
 -- what private functions say of their answers
 pub mod Calls

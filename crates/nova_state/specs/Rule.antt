@@ -37,8 +37,8 @@ abbrev pub grouped : GroupRule → List Row → List Row
 grouped p rows = filter_map (λ by. row_of p by (members p.columns rows by)) (rising (map (key_at p.columns) rows))
 
 -- the rows that the plan makes of a table
-abbrev pub den : GroupRule → RowMap → List Row
-den p m = grouped p (filter_map p.chain (values m))
+abbrev pub rows_made : GroupRule → RowMap → List Row
+rows_made p m = grouped p (filter_map p.chain (values m))
 
 -- ---- changes
 -- the BY values of a row's group, if it passes the chain

@@ -1,5 +1,5 @@
 //! The state of the changed table, and the delta of its groups.
-ghost use Rattle.std.specs.Prelude.{◌≡◌, ◌++◌, ◌+◌, ◌<◌, ◌^◌, map, IfOk, OnOk};
+ghost use Rattle.std.specs.Prelude.{◌≡◌, ◌++◌, ◌<◌, ◌^◌, map, IfOk, OnOk};
 ghost use Rattle.std.specs.FinMap as fin;
 ghost use Rattle.nova_value.specs.Rows.{IsShape, key_at};
 ghost use Rattle.nova_delta.specs.Merge.{RowMap, TableValue, IsDelta, merged};
@@ -151,34 +151,40 @@ fn answer(
     Ok(delta)
 }
 
-/// What is known of the plan and of the delta.
-fn known(plan: &GroupPlan, delta: &Delta)
+/// What is known of the plan, of the state and of the delta.
+fn known(plan: &GroupPlan, state: &State, delta: &Delta)
     ensures plan { IsPlan plan.now }
     ensures shape { IsGroupPlan plan.now }
     ensures output { IsShape plan.now.output }
+    ensures shares { fin.len state.now.shares < 2 ^ 63 }
     ensures delta { IsDelta delta.now }
+    ensures entries { fin.len delta.now.entries < 2 ^ 63 }
 {
     plan.plan().nodes();
     plan.output().key();
-    delta.entries();
+    state.share_count();
+    delta.keyed_entries();
 }
 
 /// The state of the changed table, and the output's delta: at the output key of each group that a
 /// key of the delta had or has, the group's new row, or a removal. It takes a logarithm of the
 /// state's numbers of contributions, groups and distinct values for each entry, and never goes over
-/// the members of a group. Where the state is no table's, it answers, and nothing else is said.
+/// the members of a group. Where the state is no table's, such as a part of one, the share of each
+/// key of the delta is replaced all the same, and of the output's delta nothing is said but its
+/// schema. Where memory fails the state is gone.
 pub fn advance(
     alloc: Global,
     plan: &GroupPlan,
     state: State,
     delta: &Delta,
 ) -> Result<(State, Delta), AllocError>
-    ensures state { (m : RowMap) → IsStateOf plan.now state m → fin.len m + fin.len delta.now.entries < 2 ^ 64
-        → IfOk result (λ r. IsStateOf plan.now r.0 (merged m delta.now.entries)) }
-    ensures delta { (m : TableValue) → IsStateOf plan.now state m.rows → fin.len m.rows + fin.len delta.now.entries < 2 ^ 64 → IsInputTable plan.now m → delta.now.schema ≡ m.schema
+    ensures moved { IfOk result (λ r. r.0 ≡ steps.moved_all (rule.share_of (rule_of plan.now)) (rule.kepts (rule_of plan.now)) state (fin.entries delta.now.entries)) }
+    ensures state { (m : RowMap) → IsStateOf plan.now state m → IfOk result (λ r. IsStateOf plan.now r.0 (merged m delta.now.entries)) }
+    ensures delta { (m : TableValue) → IsStateOf plan.now state m.rows → IsInputTable plan.now m → delta.now.schema ≡ m.schema
         → IfOk result (λ r. r.1 ≡ delta_of plan.now m.rows delta.now.entries) }
+    ensures schema { IfOk result (λ r. r.1.schema ≡ plan.now.output) }
 {
-    known(plan, delta);
+    known(plan, &state, delta);
     rows_fit_their_kinds();
     let calls = calls_of(alloc, plan)?;
     let kinds = kinds_of(alloc, &calls)?;

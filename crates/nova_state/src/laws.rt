@@ -11,6 +11,16 @@ pub fn groups_merge()
     ensures { law.GroupsMerge }
 {}
 
+/// The state of no rows is empty.
+pub fn no_rows_no_state()
+    ensures { law.NoRowsNoState }
+{}
+
+/// The state of a table of the plan's input is one of the plan's sorts.
+pub fn states_fit()
+    ensures { law.StatesFit }
+{}
+
 /// The state of a table, by its parts, is what the whole table gives.
 pub fn states_are_whole()
     ensures { law.StatesAreWhole }

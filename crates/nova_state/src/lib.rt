@@ -4,9 +4,11 @@
 
 mod change;
 mod fit;
+mod kinds;
 mod laws;
 mod plan;
 
 pub use change::advance;
-pub use laws::{groups_merge, rows_are_grouped, states_are_whole};
+pub use kinds::sorts;
+pub use laws::{groups_merge, no_rows_no_state, rows_are_grouped, states_are_whole, states_fit};
 pub use nova_groups::State;

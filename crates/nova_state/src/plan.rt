@@ -46,7 +46,7 @@ fn earlier(source: u32, node: u32) -> Option<u32>
 }
 
 /// The rows that a GROUP groups, by their node, and its columns.
-fn group_of(nodes: &[Node], node: u32) -> Option<(u32, &[u32])>
+pub(crate) fn group_of(nodes: &[Node], node: u32) -> Option<(u32, &[u32])>
     ensures { option_map (λ g. (g.0, g.1.now)) result ≡ calls.group_node (slice_get nodes.now node) }
 {
     match node_at(nodes, node) {

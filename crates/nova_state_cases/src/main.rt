@@ -5,10 +5,10 @@ mod lines;
 mod task;
 
 use nova_case::{Bench, Step, try_files};
-use nova_state::State;
+use nova_value::Schema;
 use std::alloc::{AllocError, Global};
 use std::io;
-use task::{Task, plan};
+use task::{Task, by_id, by_tag, plan};
 
 /// The task of a case, once it is there.
 #[derive(Drop)]
@@ -18,11 +18,16 @@ struct Tasks {
 
 impl Tasks {
     /// Begins a task of this script, whose state is that of no rows.
-    fn start(&mut self, alloc: Global, kinds: &str, script: &str) -> Result<Vec<u8>, AllocError> {
-        match plan(alloc, kinds, script)? {
+    fn start(
+        &mut self,
+        alloc: Global,
+        input: Schema,
+        kinds: &str,
+        script: &str,
+    ) -> Result<Vec<u8>, AllocError> {
+        match plan(alloc, &input, kinds, script)? {
             Some(plan) => {
-                let state = State::empty(alloc);
-                self.task = Some(Task { plan, state });
+                self.task = Some(Task::new(alloc, plan, input));
                 Ok(Vec::new(alloc))
             }
             None => b"no grouping task\n".to_vec(alloc),
@@ -53,7 +58,8 @@ impl Bench for Tasks {
             return b"no text\n".to_vec(alloc);
         };
         match step.verb.as_str() {
-            "task" => self.start(alloc, step.words.as_str(), text),
+            "task" => self.start(alloc, by_id(alloc)?, step.words.as_str(), text),
+            "keyed" => self.start(alloc, by_tag(alloc)?, step.words.as_str(), text),
             "advance" => self.advance(alloc, text),
             _ => b"no such step\n".to_vec(alloc),
         }

@@ -1,0 +1,1 @@
+use Rattle.nova_state.proofs.kinds.sorts_over.Goals as goal

@@ -95,6 +95,7 @@ pub record RunKeeps (cat : Entered) (t : ℕ) (versions : List ℕ) (block size 
   pub grow : may_rise (shelf_at cat (wire_at cat.wiring t).output).version ≡ true
   pub runs : (progress_at cat t).runs < bound
   pub next : cat.next + length parts < bound
+  pub kept : may_have_parts (wire_at cat.wiring t).stateful parts ≡ true
   pub numbers : may_parts 0 (cat.next + 1) parts ≡ true
   pub seen : may_see_all cat (progress_at cat t).last 0 (wire_at cat.wiring t).inputs versions ≡ true
 
@@ -116,6 +117,7 @@ run_keeps cat t versions moment seen block size parts e =
       grow = g.0;
       runs = is_less (progress_at cat t).runs bound h.0;
       next = is_less (cat.next + length parts) bound i.0;
+      kept = (and_both (may_have_parts wire.stateful parts) (may_parts 0 (cat.next + 1) parts) i.1).0;
       numbers = (and_both (may_have_parts wire.stateful parts) (may_parts 0 (cat.next + 1) parts) i.1).1;
       seen = d.1;
     }

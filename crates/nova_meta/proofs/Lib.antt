@@ -5,5 +5,6 @@ pub mod Allowed
 pub mod Once
 pub mod Sound
 pub mod Numbered
+pub mod Parts
 pub mod Example
 pub mod Worked

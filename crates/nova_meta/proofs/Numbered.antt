@@ -71,18 +71,18 @@ set_either (x ∷ xs) zero (suc j) y v e = inl e
 set_either (x ∷ xs) (suc i) zero y v e = inl e
 set_either (x ∷ xs) (suc i) (suc j) y v e = elim (set_either xs i j y v e) [ inl h ↦ inl h | inr h ↦ inr (ap suc h.0, h.1) ]
 
-no_part : PartFile
+pub no_part : PartFile
 no_part = record { part = 0; block = 0; size = 0 }
 
 -- the k-th of these parts has the block that is k after the first, and this number and size
-record IsPart (ps : List PartFile) (block part b size : ℕ) : Type 0 where
-  k : ℕ
-  within : k < length ps
-  block_is : b ≡ block + k
-  part_is : (get_or ps k no_part).part ≡ part
-  size_is : (get_or ps k no_part).size ≡ size
+pub record IsPart (ps : List PartFile) (block part b size : ℕ) : Type 0 where
+  pub k : ℕ
+  pub within : k < length ps
+  pub block_is : b ≡ block + k
+  pub part_is : (get_or ps k no_part).part ≡ part
+  pub size_is : (get_or ps k no_part).size ≡ size
 
-parts_either : (least block : ℕ) (ps : List PartFile) (files : List (Option StateFile)) → may_parts least block ps ≡ true → (j : ℕ) (v : StateFile) → get_or (with_parts ps files) j None ≡ Some v → (get_or files j None ≡ Some v) ⊎ IsPart ps block j v.block v.size
+pub parts_either : (least block : ℕ) (ps : List PartFile) (files : List (Option StateFile)) → may_parts least block ps ≡ true → (j : ℕ) (v : StateFile) → get_or (with_parts ps files) j None ≡ Some v → (get_or files j None ≡ Some v) ⊎ IsPart ps block j v.block v.size
 parts_either least block [] files ok j v e = inl e
 parts_either least block (p ∷ ps) files ok j v e =
     let a = and_both (nat_le least p.part) _ ok in
@@ -215,8 +215,8 @@ numbered w cat (Joined c from to block size) sound is ok =
 numbered w cat (Collected kept) sound is ok = numbered_step cat _ none_fresh (omega arith) (λ x b s h. inl (kept_names cat kept x b s h)) is
 
 -- no commit, no name
-blank_numbered : (w : Wiring) → IsNumbered (blank w)
-blank_numbered w = record { below = λ x b s h. absurd (never x b s h); once = λ x y b s t h g. absurd (never x b s h) }
+pub none_named : (w : Wiring) (x : Content) (b s : ℕ) → Names (blank w) x b s → ⊥
+none_named w = never
   where
     no_file : (i : ℕ) (v : StateFile) → get_or no_run.parts i None ≡ Some v → ⊥
     no_file i v e = nothing (none_at 16 i) e
@@ -232,6 +232,9 @@ blank_numbered w = record { below = λ x b s h. absurd (never x b s h); once = �
     never : (x : Content) (b s : ℕ) → Names (blank w) x b s → ⊥
     never (Channel c from to) b s h = subst (λ (t : Shelved). IsOneOf t.intervals (interval_of from to b s)) (get_or-map (λ (x : Option ℕ). nothing_shelved) w.writers c None) h
     never (State t part) b s h = no_file part (record { block = b; size = s }) (subst (λ (p : Progress). get_or p.parts part None ≡ Some (record { block = b; size = s })) (get_or-map (λ x. no_run) w.tasks t no_wire) h)
+
+blank_numbered : (w : Wiring) → IsNumbered (blank w)
+blank_numbered w = record { below = λ x b s h. absurd (none_named w x b s h); once = λ x y b s t h g. absurd (none_named w x b s h) }
 
 pub blocks_are_numbered : BlocksAreNumbered
 blocks_are_numbered w commits cat is e =

@@ -1,12 +1,12 @@
 -- Lists of commits in order, and the blocks that their catalog names.
-use Rattle.std.specs.Prelude.{◌≡◌, ℕ, ◌<◌, List, ◌∷◌, [], ◌++◌, map, Some, None, slice_index_or}
+use Rattle.std.specs.Prelude.{◌≡◌, ℕ, ◌<◌, ◌^◌, true, List, ◌∷◌, [], ◌++◌, length, map, Some, None, slice_index_or}
 use Rattle.std.specs.List.{AllByRecursion}
 use Rattle.nova_path.specs.Lists.{IsOneOf}
 use Rattle.nova_commit.specs.declared.commit.Commit.{Commit}
 use Rattle.nova_meta.specs.declared.wiring.Wiring.{Wiring}
 use Rattle.nova_commit.specs.Commits.{Fits, commit_bytes}
-use Rattle.nova_meta.specs.Wired.{IsWiring}
-use Rattle.nova_meta.specs.Catalog.{Entered, catalog_of, interval_of, progress_at, shelf_at, with_commit}
+use Rattle.nova_meta.specs.Wired.{IsWiring, wire_at}
+use Rattle.nova_meta.specs.Catalog.{Entered, catalog_of, interval_of, part_count, progress_at, shelf_at, with_commit}
 
 -- The commits are in order, and make this catalog. Each fits its bytes, so they are told by them.
 pub record IsCatalogOf (w : Wiring) (commits : List Commit) (cat : Entered) : Type 0 where
@@ -38,3 +38,24 @@ pub record IsNumbered (cat : Entered) : Type 0 where
 
 abbrev pub BlocksAreNumbered : Type 0
 BlocksAreNumbered = (w : Wiring) (commits : List Commit) (cat : Entered) → IsWiring w → catalog_of w commits ≡ Some cat → IsNumbered cat
+
+-- state parts are named only of tasks that keep state, by numbers below the count of parts
+abbrev pub HasKeptParts : Entered → Type 0
+HasKeptParts cat = (t part block size : ℕ) → Names cat (State t part) block size → ((wire_at cat.wiring t).stateful ≡ true) × (part < part_count)
+
+abbrev pub PartsAreKept : Type 0
+PartsAreKept = (w : Wiring) (commits : List Commit) (cat : Entered) → catalog_of w commits ≡ Some cat → HasKeptParts cat
+
+-- the size of a state part has room in its field
+abbrev pub HasWideParts : Entered → Type 0
+HasWideParts cat = (t part block size : ℕ) → Names cat (State t part) block size → size < 2 ^ 64
+
+abbrev pub PartsAreWide : Type 0
+PartsAreWide = (w : Wiring) (commits : List Commit) (cat : Entered) → IsCatalogOf w commits cat → HasWideParts cat
+
+-- each task has a slot for each part that states may have
+abbrev pub HasSlots : Entered → Type 0
+HasSlots cat = (t : ℕ) → length (progress_at cat t).parts ≡ 16
+
+abbrev pub PartsHaveSlots : Type 0
+PartsHaveSlots = (w : Wiring) (commits : List Commit) (cat : Entered) → catalog_of w commits ≡ Some cat → HasSlots cat

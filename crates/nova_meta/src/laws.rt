@@ -1,5 +1,5 @@
 //! Laws of commits. Each is the contract of a function that does nothing.
-ghost use Rattle.nova_meta.specs.Named.{BlocksAreNumbered, CommitsCompose, ListsSpelledOnce};
+ghost use Rattle.nova_meta.specs.Named.{BlocksAreNumbered, CommitsCompose, ListsSpelledOnce, PartsAreKept, PartsAreWide, PartsHaveSlots};
 ghost use Rattle.nova_meta.specs.Sound.{CatalogsAreSound};
 ghost use Rattle.nova_meta.specs.Worked.{ClockAndCursors, CountersEnd};
 
@@ -24,6 +24,14 @@ pub fn catalogs_are_sound()
 /// one interval of a channel or one state part of a task.
 pub fn blocks_are_numbered()
     ensures { BlocksAreNumbered }
+{}
+
+/// A state part that a catalog of commits in order names is of a task that keeps state, and its size
+/// has room in its field. Each task has a slot for each part.
+pub fn parts_are_kept()
+    ensures kept { PartsAreKept }
+    ensures wide { PartsAreWide }
+    ensures slots { PartsHaveSlots }
 {}
 
 /// What may come next where a counter stands at its bound or below, worked out; and a tick and a run

@@ -19,7 +19,7 @@ pub use captured::{Captured, Versions};
 pub use catalog::Catalog;
 pub use laws::{
     blocks_are_numbered, catalogs_are_sound, commits_compose, counters_are_bounded,
-    lists_are_spelled_once,
+    lists_are_spelled_once, parts_are_kept,
 };
 pub use nova_commit::{Commit, MetaFault, PartFile, decode_commit, encode_commit};
 pub use prepared::Prepared;

@@ -26,9 +26,9 @@ use Rattle.nova_workflow.specs.declared.flow.Flow.{Flow}
 use Rattle.nova_admit.specs.declared.plans.Pattern.{Pattern}
 use Rattle.nova_admit.specs.declared.plans.Pattern.TheVariants.{N, S, L, F}
 use Rattle.nova_admit.specs.declared.fault.AdmitFault.{AdmitFault}
-use Rattle.nova_admit.specs.declared.fault.AdmitFault.TheVariants.{NotBuilt, NoMemory}
+use Rattle.nova_admit.specs.declared.fault.AdmitFault.TheVariants.{NoMemory}
 use Rattle.nova_admit.specs.TaskPlans.{plan_of, kind_of, admitted}
-use Rattle.nova_admit.specs.Flows.{channels_of, inputs_of, is_built, fault_of, if_built, told, script_fault, pattern_of, HasPattern, HasFault}
+use Rattle.nova_admit.specs.Flows.{channels_of, inputs_of, fault_of, told, script_fault, pattern_of, HasPattern, HasFault}
 use Rattle.nova_admit.specs.Settled.{TasksAreSettled}
 
 -- ---- answers
@@ -153,9 +153,6 @@ task_tells f name task.KeyDiffers = λ e. absurd cc
 task_tells f name (task.BaseReadAsNew channel) = λ e. absurd cc
 task_tells f name task.NotAPattern = λ e. absurd cc
 
-not_built_tells : (name : List ℕ) → NotBuilt name ≢ NoMemory
-not_built_tells name e = absurd cc
-
 -- ---- a task has a pattern or a fault
 abbrev patterned : PatternKind → Plan → Pattern
 patterned NonIncremental p = N p
@@ -182,21 +179,20 @@ module _ (shapes : AdmittedHaveShapes) (f : Flow) (t : Task) where
   with_fault : (g : Result Plan ScriptFault) (e : AdmitFault) → e ≢ NoMemory → GivesPlan t.script (channels_of f t) g → pattern_of f t g ≡ Err e → Either f t
   with_fault g e k gives h = inr (e, k, record { given = g; gives = gives; fault = h })
 
-  by_kind : (p : Plan) (kind : PatternKind) → GivesPlan t.script (channels_of f t) (Ok p) → admitted p (inputs_of f t) t.based ≡ Ok kind → (b : Bool) → is_built kind ≡ b → Either f t
-  by_kind p kind gives e true h =
+  by_kind : (p : Plan) (kind : PatternKind) → GivesPlan t.script (channels_of f t) (Ok p) → admitted p (inputs_of f t) t.based ≡ Ok kind → Either f t
+  by_kind p kind gives e =
       let plan_is = same_plan kind p in
       inl (
         patterned kind p,
         record {
           plan = subst (λ (z : Plan). GivesPlan t.script (channels_of f t) (Ok z)) (sym plan_is) gives;
-          kind = ap (λ (z : Plan). pattern_of f t (Ok z)) plan_is ∙ ap (told f t.name) e ∙ ap (if_built t.name kind) h ∙ ap (λ (z : PatternKind). let r : Result PatternKind AdmitFault = Ok z in r) (sym (same_kind kind p));
+          kind = ap (λ (z : Plan). pattern_of f t (Ok z)) plan_is ∙ ap (told f t.name) e ∙ ap (λ (z : PatternKind). let r : Result PatternKind AdmitFault = Ok z in r) (sym (same_kind kind p));
           key = subst HasOutputKey (sym plan_is) (shapes p.inputs (inputs_of f t) t.based p.output.key (tree_of_plan p) (plan_key p) kind e).0;
         },
       )
-  by_kind p kind gives e false h = with_fault (Ok p) (NotBuilt t.name) (not_built_tells t.name) gives (ap (told f t.name) e ∙ ap (if_built t.name kind) h)
 
   by_admission : (p : Plan) → GivesPlan t.script (channels_of f t) (Ok p) → (a : Result PatternKind TaskFault) → admitted p (inputs_of f t) t.based ≡ a → Either f t
-  by_admission p gives (Ok kind) e = by_kind p kind gives e (is_built kind) refl
+  by_admission p gives (Ok kind) e = by_kind p kind gives e
   by_admission p gives (Err x) e = with_fault (Ok p) (fault_of f t.name x) (task_tells f t.name x) gives (ap (told f t.name) e)
 
   by_script : (xs : List Statement) → text.IsScriptOf t.script xs → (a : Result Plan Place) → resolved xs (channels_of f t) ≡ a → Either f t

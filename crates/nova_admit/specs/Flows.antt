@@ -5,7 +5,6 @@ use Rattle.nova_value.specs.Rows.{Shape}
 use Rattle.nova_pig_algebra.specs.Plan.{Plan}
 use Rattle.nova_pig_pattern.specs.declared.task.Input as pattern
 use Rattle.nova_pig_pattern.specs.declared.task.PatternKind.{PatternKind}
-use Rattle.nova_pig_pattern.specs.declared.task.PatternKind.TheVariants.{NonIncremental, Stateless, Lookup, Stateful}
 use Rattle.nova_pig_pattern.specs.declared.task.TaskFault.{TaskFault}
 use Rattle.nova_pig_pattern.specs.declared.task.TaskFault.TheVariants as task
 use Rattle.nova_pig_pattern.specs.OutputKey.{HasOutputKey}
@@ -23,7 +22,7 @@ use Rattle.nova_workflow.specs.declared.flow.Task.{Task}
 use Rattle.nova_workflow.specs.declared.flow.Flow.{Flow}
 use Rattle.nova_admit.specs.declared.plans.Pattern.{Pattern}
 use Rattle.nova_admit.specs.declared.fault.AdmitFault.{AdmitFault}
-use Rattle.nova_admit.specs.declared.fault.AdmitFault.TheVariants.{Script, NoKey, KeyDiffers, BaseReadAsNew, NotAPattern, NotBuilt, NoMemory}
+use Rattle.nova_admit.specs.declared.fault.AdmitFault.TheVariants.{Script, NoKey, KeyDiffers, BaseReadAsNew, NotAPattern, NoMemory}
 use Rattle.nova_admit.specs.TaskPlans.{plan_of, kind_of, admitted}
 
 -- ---- what a task is to its script and to its pattern
@@ -66,13 +65,6 @@ abbrev pub IsWithin : Flow → Task → Type 0
 IsWithin f t = AreWithin f t.inputs × (t.output < length f.channels)
 
 -- ---- what is answered of a task
--- whether tasks of a pattern run
-abbrev pub is_built : PatternKind → Bool
-is_built NonIncremental = true
-is_built Stateless = true
-is_built Lookup = true
-is_built Stateful = false
-
 -- the fault of a task with this name
 abbrev pub fault_of : Flow → List ℕ → TaskFault → AdmitFault
 fault_of f name task.NoKey = NoKey name
@@ -80,14 +72,9 @@ fault_of f name task.KeyDiffers = KeyDiffers name
 fault_of f name (task.BaseReadAsNew channel) = BaseReadAsNew name (channel_at f channel).name
 fault_of f name task.NotAPattern = NotAPattern name
 
--- the pattern, where tasks of it run
-abbrev pub if_built : List ℕ → PatternKind → Bool → Result PatternKind AdmitFault
-if_built name kind true = Ok kind
-if_built name kind false = Err (NotBuilt name)
-
 -- the pattern of a task by its admission, or the task's fault
 abbrev pub told : Flow → List ℕ → Result PatternKind TaskFault → Result PatternKind AdmitFault
-told f name (Ok kind) = if_built name kind (is_built kind)
+told f name (Ok kind) = Ok kind
 told f name (Err fault) = Err (fault_of f name fault)
 
 -- a fault of the script of a task with this name

@@ -19,8 +19,6 @@ pub enum AdmitFault {
     BaseReadAsNew { task: Name, channel: Name },
     /// The task fits no pattern.
     NotAPattern { task: Name },
-    /// Tasks of the pattern don't run yet.
-    NotBuilt { task: Name },
     /// Memory ran out.
     NoMemory,
 }

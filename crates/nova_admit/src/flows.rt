@@ -98,18 +98,6 @@ fn inputs_of(alloc: Global, flow: &Flow, inputs: &[Edge]) -> Result<Vec<Input>, 
     Ok(all)
 }
 
-/// Whether tasks of the pattern run.
-fn is_built(pattern: &Pattern) -> bool
-    ensures { result ≡ spec.is_built (kind_of pattern.now) }
-{
-    match pattern {
-        Pattern::N(_) => true,
-        Pattern::S(_) => true,
-        Pattern::L(_) => true,
-        Pattern::F(_) => false,
-    }
-}
-
 /// The fault of a task.
 fn fault_of(flow: &Flow, task: &Name, fault: TaskFault) -> AdmitFault
     ensures { result ≡ spec.fault_of flow.now task.now fault }
@@ -146,15 +134,7 @@ fn with_plan(alloc: Global, flow: &Flow, task: &Task, plan: Plan) -> Result<Patt
 {
     let inputs = inputs_of(alloc, flow, task.inputs.as_slice())?;
     match admit_task(alloc, plan, &inputs, task.based)? {
-        Ok(pattern) => {
-            if is_built(&pattern) {
-                Ok(pattern)
-            } else {
-                Err(AdmitFault::NotBuilt {
-                    task: task.name.copy(),
-                })
-            }
-        }
+        Ok(pattern) => Ok(pattern),
         Err(fault) => Err(fault_of(flow, &task.name, fault)),
     }
 }

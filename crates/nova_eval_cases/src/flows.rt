@@ -50,7 +50,6 @@ fn told(alloc: Global, fault: &AdmitFault) -> Result<String, AllocError> {
         AdmitFault::NotAPattern { task } => {
             format!(in alloc; "task 5 not-a-pattern {}\n", task.text())
         }
-        AdmitFault::NotBuilt { task } => format!(in alloc; "task 7 not-built {}\n", task.text()),
         AdmitFault::NoMemory => Err(AllocError),
     }
 }

@@ -8,7 +8,7 @@ use Rattle.nova_pig_algebra.specs.Plan.{IsPlan}
 use Rattle.nova_pig_pattern.specs.OutputKey.{HasOutputKey}
 use Rattle.nova_pig_pattern.specs.declared.task.PatternKind.{PatternKind}
 use Rattle.nova_pig_pattern.specs.declared.task.TaskFault.{TaskFault}
-use Rattle.nova_admit.specs.Flows.{HasPattern, HasSchemas, HavePatterns, if_built, inputs_of, is_built, told}
+use Rattle.nova_admit.specs.Flows.{HasPattern, HasSchemas, HavePatterns, inputs_of, told}
 use Rattle.nova_admit.specs.TaskPlans.{admitted, kind_of, plan_of}
 use Rattle.nova_admit.specs.declared.plans.Pattern.{Pattern}
 use Rattle.nova_admit.proofs.Schemas.{has_schemas}
@@ -18,11 +18,7 @@ use Rattle.nova_histories.specs.Planned.{AdmittedArePlanned, IsPlannedTask, flow
 -- the pattern that is told is that of the admission
 of_told : (f : Flow) (name : List ℕ) (r : Result PatternKind TaskFault) (kind : PatternKind) → told f name r ≡ Ok kind → r ≡ Ok kind
 of_told f name (Err fault) kind e = absurd cc
-of_told f name (Ok k) kind e = go (is_built k) e
-  where
-    go : (b : Bool) → if_built name k b ≡ Ok kind → (let r : Result PatternKind TaskFault = Ok k in r) ≡ Ok kind
-    go true g = let same : k ≡ kind = cc in ap (λ (x : PatternKind). let r : Result PatternKind TaskFault = Ok x in r) same
-    go false g = absurd cc
+of_told f name (Ok k) kind e = let same : k ≡ kind = cc in ap (λ (x : PatternKind). let r : Result PatternKind TaskFault = Ok x in r) same
 
 record HasPlan (f : Flow) (t : Task) (p : TaskPlan) : Type 0 where
   pattern : Pattern

@@ -40,7 +40,7 @@ use Rattle.nova_groups.specs.State.{row_put}
 use Rattle.nova_state.specs.Advance.{delta_of, row_list, stored}
 use Rattle.nova_state.specs.Advance as state
 use Rattle.nova_state.specs.Plan.{rule_of}
-use Rattle.nova_state.specs.Rule.{den, entry_of, grouped, row_of}
+use Rattle.nova_state.specs.Rule.{rows_made, entry_of, grouped, row_of}
 use Rattle.nova_state.proofs.Blocks.{groups_merge}
 use Rattle.nova_state.proofs.Tables.{rows_are_grouped}
 use Rattle.nova_rowwise.specs.Runs.{IsNextRun, main_channel}
@@ -144,7 +144,7 @@ stored_none p is =
     ap (table_of p.output) no_rows
     ∙ ap (λ (m : RowMap). record { schema = p.output; rows = m }) (same_rows _ _ (λ q. get-table_of p.output [] q ∙ sym (get-empty key_cmp q)))
   where
-    grouped_none : fin.values (fin.empty {X = Row} {R = key_cmp}) ≡ [] → den (rule_of p) fin.empty ≡ []
+    grouped_none : fin.values (fin.empty {X = Row} {R = key_cmp}) ≡ [] → rows_made (rule_of p) fin.empty ≡ []
     grouped_none none =
         ap (λ (rs : List Row). grouped (rule_of p) (filter_map (rule_of p).chain rs)) none
         ∙ ap (λ (bys : List Row). filter_map (λ by. row_of (rule_of p) by (members (rule_of p).columns [] by)) bys) rising_none

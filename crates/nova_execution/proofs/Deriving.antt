@@ -1,22 +1,19 @@
 -- The block that a run makes row by row is the state's.
-use Rattle.std.proofs.Common.{◌≡◌, ◌⊎◌, ℕ, zero, suc, ◌+◌, ◌<◌, Bool, false, List, [], ◌∷◌, ◌++◌, length, map, take, drop, get_or, Option, Some, None, Result, Ok, Err, refl, ap, sym, ◌∙◌, subst, arith}
+use Rattle.std.proofs.Common.{◌≡◌, ℕ, zero, suc, ◌<◌, Bool, false, List, [], ◌∷◌, ◌++◌, length, map, take, drop, get_or, Option, Some, None, refl, ap, sym, ◌∙◌, subst, arith}
 use Rattle.std.specs.Prelude.{slice_get}
 use Rattle.std.specs.FinMap.{values}
 use Rattle.std.specs.List.{All, flat_map}
-use Rattle.std.specs.Result.{IfOk}
 use Rattle.std.proofs.lemmas.List.{map-append}
 use Rattle.nova_outside.specs.Disk.{Files}
 use Rattle.nova_delta.specs.Merge.{DeltaValue, TableValue, no_change}
 use Rattle.nova_delta.specs.Listed.{entries_of}
 use Rattle.nova_delta.specs.Listed as delta
-use Rattle.nova_block.specs.declared.fault.BlockFault.{BlockFault}
 use Rattle.nova_workflow.specs.declared.flow.Channel.{Channel}
 use Rattle.nova_workflow.specs.declared.flow.Input.{Input}
 use Rattle.nova_workflow.specs.declared.flow.Task.{Task}
 use Rattle.nova_pig_algebra.specs.Meaning.{Row}
 use Rattle.nova_pig_algebra.specs.Plan.{Plan, tree_of_plan}
 use Rattle.nova_pig_pattern.specs.Table.{IsMain}
-use Rattle.nova_pig_pattern.specs.declared.task.PatternKind.TheVariants.{Stateless, Lookup}
 use Rattle.nova_admit.specs.Flows.{Admission, input_of}
 use Rattle.nova_admit.specs.TaskPlans.{kind_of, plan_of}
 use Rattle.nova_admit.specs.declared.plans.Pattern.{Pattern}
@@ -24,28 +21,27 @@ use Rattle.nova_meta.specs.declared.captured.Captured.{Captured}
 use Rattle.nova_meta.specs.Catalog.{Entered, captured, progress_at, shelf_at}
 use Rattle.nova_machine.specs.Workflow.{TaskPlan, is_based, main_place, no_channel, no_input, no_plan, no_task, output_in, plan_in, schema_in, task_in}
 use Rattle.nova_machine.specs.Versions.{rows_in}
-use Rattle.nova_machine.specs.State.{Capture, State, block_at, done_at, kept_at, newest}
+use Rattle.nova_machine.specs.State.{State, block_at, done_at, kept_at, newest}
 use Rattle.nova_machine.specs.Due.{last_run, seen_at}
-use Rattle.nova_machine.specs.Results.{captured_rows, inputs_at}
+use Rattle.nova_machine.specs.Results.{inputs_at}
 use Rattle.nova_machine.specs.Steps.{add_run, next_span}
 use Rattle.nova_channel.specs.Reading.{HasRead}
 use Rattle.nova_channel.proofs.Routes.{reads_are_blocks}
-use Rattle.nova_trigger.specs.Due.{capture_in, last_in, last_or, task_at}
+use Rattle.nova_trigger.specs.Due.{capture_in, last_or, task_at}
 use Rattle.nova_rowwise.specs.Derived.{answers, derived, made_of, main_of, plan_keys}
 use Rattle.nova_rowwise.proofs.Folds.{set_schema}
 use Rattle.nova_rowwise.specs.Runs.{run_delta, without}
 use Rattle.nova_histories.specs.Statements.{IsRowPattern}
 use Rattle.nova_histories.proofs.Writes.{row_runs}
 use Rattle.nova_histories.proofs.Taken.{row_runs_take_tables}
-use Rattle.nova_execution.specs.Executed.{IsExecuted, IsExecutedBy}
 use Rattle.nova_execution.specs.Made.{IsHeld, IsHeldFor, run_block, task_plan}
-use Rattle.nova_execution.specs.Reads.{Read, edges_of, intervals_at, run_reads, schema_at, whole_reads}
+use Rattle.nova_execution.specs.Reads.{Read, edges_of, intervals_at, run_reads, schema_at}
 use Rattle.nova_execution.specs.Rows.{AreRowInputs, IsDerived, IsNew, block_behind, row_reads, since}
 use Rattle.nova_execution.proofs.Making.{all_rows, plan_there}
 use Rattle.nova_execution.proofs.RowReads.{all_before, all_behind, at_main, first_row_reads, main_within}
 
 -- where an input stands is where the task's last run captured it
-cursor_of : (o : Option Captured) (k : ℕ) → captured o k ≡ seen_at (last_or o) k
+pub cursor_of : (o : Option Captured) (k : ℕ) → captured o k ≡ seen_at (last_or o) k
 cursor_of None k = refl
 cursor_of (Some run) k = refl
 
@@ -64,7 +60,7 @@ without_one s (i ∷ is) (v ∷ vs) (suc k) long lt =
 -- ---- what was read is what the run captured
 
 module _ (channels : List Channel) (cat : Entered) (files : Files) (s : State) (same : s.flow.channels ≡ channels) where
-  new_is : (r : Read) (d : DeltaValue) → IsNew channels cat files r d → IsHeld cat files s r → d ≡ block_at s r.channel r.from r.to
+  pub new_is : (r : Read) (d : DeltaValue) → IsNew channels cat files r d → IsHeld cat files s r → d ≡ block_at s r.channel r.from r.to
   new_is r d is held =
       let entries = reads_are_blocks (schema_in s.flow r.channel) files (kept_at s r.channel).versions (intervals_at cat r.channel) r.from r.to d.entries held.gives held.there
       (subst (λ (cs : List Channel). HasRead (schema_at cs r.channel) files (intervals_at cat r.channel) r.from r.to d.entries) (sym same) is.1) in
@@ -140,19 +136,3 @@ module _ (a : Admission) (cat : Entered) (files : Files) (t : ℕ) (run : Captur
       let law = row_runs s held.planned held.reached t there by_row (capture_in run) held.current in
       made.block ∙ (λ n. block_behind (version n) (delta n)) ∙ sym law.writes
       ∙ ap (λ (b : Bool). block_at (add_run s t (capture_in run)) c (next_span b (newest s c)).from (next_span b (newest s c)).to) (sym based)
-
--- so it is with the block that a call gives
-pub derived_if : (a : Admission) (cat : Entered) (files : Files) (t : ℕ) (run : Captured) (q : Pattern) → IsRowPattern (kind_of q) →
-    t < length a.flow.tasks → slice_get a.patterns t ≡ Some q → length run.versions ≡ length (task_at a.flow t).inputs →
-    IsMain (map (input_of a.flow) (task_at a.flow t).inputs) (main_of (tree_of_plan (plan_of q))) → (get_or a.flow.channels (task_at a.flow t).output no_channel).based ≡ false →
-    (r : Result DeltaValue BlockFault) → IfOk r (IsDerived a.flow.channels cat files t (task_at a.flow t).inputs run.versions (plan_of q) (shelf_at cat (task_at a.flow t).output).version) →
-    IfOk r (λ d. (s : State) → IsHeldFor a cat files t run s → d ≡ run_block s t (capture_in run))
-derived_if a cat files t run q row lt pattern each main changes (Ok d) made = λ s held. derived_in a cat files t run q row lt pattern each main changes s held d made
-derived_if a cat files t run q row lt pattern each main changes (Err e) made = tt
-
--- ---- whatever the files stand for
-
-pub executed_if : (a : Admission) (cat : Entered) (files : Files) (t : ℕ) (vs : List ℕ) (q : Pattern) → slice_get a.patterns t ≡ Some q →
-    (r : Result DeltaValue BlockFault) → IfOk r (IsExecutedBy q a.flow cat files t vs) → IfOk r (IsExecuted a cat files t vs)
-executed_if a cat files t vs q pattern (Ok d) made = (q, pattern, made)
-executed_if a cat files t vs q pattern (Err e) made = tt

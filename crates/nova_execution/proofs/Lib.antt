@@ -4,4 +4,6 @@ pub mod Admission
 pub mod Making
 pub mod RowReads
 pub mod Deriving
+pub mod Grouping
 pub mod Executions
+pub mod Damages

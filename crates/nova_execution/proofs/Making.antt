@@ -1,13 +1,11 @@
 -- The block that a run makes is the state's.
-use Rattle.std.proofs.Common.{◌≡◌, ℕ, zero, suc, ◌+◌, ◌<◌, Bool, true, List, [], ◌∷◌, length, map, get_or, Some, Result, Ok, Err, refl, ap, sym, ◌∙◌, subst, arith}
+use Rattle.std.proofs.Common.{◌≡◌, ℕ, zero, suc, ◌+◌, ◌<◌, Bool, true, List, [], ◌∷◌, length, map, get_or, Some, refl, ap, sym, ◌∙◌, subst, arith}
 use Rattle.std.specs.Prelude.{slice_get}
 use Rattle.std.specs.List.{All}
-use Rattle.std.specs.Result.{IfOk}
-use Rattle.nova_block.specs.declared.fault.BlockFault.{BlockFault}
 use Rattle.std.specs.FinMap.{values}
 use Rattle.std.proofs.lemmas.List.Elements.{All-head, All-tail}
 use Rattle.nova_outside.specs.Disk.{Files}
-use Rattle.nova_delta.specs.Merge.{DeltaValue, RowMap, TableValue}
+use Rattle.nova_delta.specs.Merge.{RowMap, TableValue}
 use Rattle.nova_delta.specs.Seen.{table_of}
 use Rattle.nova_delta.specs.Listed as delta
 use Rattle.nova_workflow.specs.declared.flow.Channel.{Channel}
@@ -32,7 +30,7 @@ use Rattle.nova_machine.specs.Steps.{add_run, next_span}
 use Rattle.nova_machine.proofs.Making.{runs_make_bases}
 use Rattle.nova_channel.proofs.Routes.{tables_are_versions}
 use Rattle.nova_trigger.specs.Due.{capture_in, task_at}
-use Rattle.nova_execution.specs.Base.{IsComputed, base_of, puts_of}
+use Rattle.nova_execution.specs.Base.{base_of, puts_of}
 use Rattle.nova_execution.specs.Made.{IsHeld, IsHeldFor, run_block, task_plan}
 use Rattle.nova_execution.specs.Reads.{AreTables, IsTable, edges_of, run_reads, whole, whole_reads}
 use Rattle.nova_machine.proofs.Counted.{channels_are_kept}
@@ -110,11 +108,3 @@ module _ (a : Admission) (cat : Entered) (files : Files) (t : ℕ) (run : Captur
       made_rows s t (capture_in run) (ap (λ (x : TaskPlan). x.pattern) plan)
       ∙ (λ n. (table_of (sym schema n) (rows_of (plan n).plan (sym rows n))).rows) in
       run_of_base s t (capture_in run) (stored p ts) below based schema made
-
--- so it is with the block that a call gives
-pub made_if : (a : Admission) (cat : Entered) (files : Files) (t : ℕ) (run : Captured) (p : Plan) (q : Pattern) →
-    IsFlow a.flow → t < length a.flow.tasks → slice_get a.patterns t ≡ Some q → q ≡ N p → HasSchemas a.flow (task_at a.flow t) p → IsAnew a.flow (task_at a.flow t) →
-    (r : Result DeltaValue BlockFault) → IfOk r (IsComputed a.flow.channels cat files (whole_reads (task_at a.flow t).inputs run.versions) p) → IfOk r (λ d. (s : State) → IsHeldFor a cat files t run s → d ≡ run_block s t (capture_in run))
-made_if a cat files t run p q flow lt pattern is schemas anew (Ok d) computed =
-    λ s held. computed.is ∙ made_in a cat files t run p computed.tables flow lt (pattern ∙ ap Some is) schemas anew computed.are s held
-made_if a cat files t run p q flow lt pattern is schemas anew (Err e) computed = tt

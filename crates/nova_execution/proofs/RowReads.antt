@@ -1,5 +1,5 @@
 -- The reads of a task that goes row by row: the inputs before the main one, that one from its cursor on, and those behind it.
-use Rattle.std.proofs.Common.{◌≡◌, ◌⊎◌, inl, inr, ℕ, zero, suc, ◌+◌, ◌-◌, ◌<◌, ◌≤◌, Bool, List, [], ◌∷◌, ◌++◌, length, map, take, drop, get_or, refl, ap, sym, ◌∙◌, subst, arith, if◌then◌else◌}
+use Rattle.std.proofs.Common.{◌≡◌, ◌⊎◌, inl, inr, ℕ, zero, suc, ◌+◌, ◌-◌, ◌<◌, Bool, List, [], ◌∷◌, ◌++◌, length, map, take, drop, get_or, refl, ap, sym, ◌∙◌, arith, if◌then◌else◌}
 use Rattle.std.specs.List.{All, AllByRecursion}
 use Rattle.std.proofs.lemmas.List.Elements.{All-cons, All-head, All-nil, All-tail}
 use Rattle.std.proofs.lemmas.List.{take_rest}
@@ -17,7 +17,7 @@ use Rattle.nova_admit.specs.Flows.{input_of}
 use Rattle.nova_meta.specs.Catalog.{Entered}
 use Rattle.nova_machine.specs.Workflow.{is_new, no_input, no_schema}
 use Rattle.nova_rowwise.specs.Derived.{put_at}
-use Rattle.nova_execution.specs.Reads.{AreTables, IsDamaged, IsReadDamage, IsWhole, OneTold, Read, RunTold, edge_of, intervals_at, read_size, reads_from, reads_size, schema_at, whole_reads}
+use Rattle.nova_execution.specs.Reads.{AreTables, AreWhole, IsDamaged, IsReadDamage, IsWhole, OneTold, Read, RunTold, edge_of, intervals_at, read_size, reads_from, reads_size, schema_at, whole_reads}
 use Rattle.nova_execution.specs.Rows.{IsNew, row_reads, since}
 use Rattle.nova_execution.proofs.Reading.{all_whole, same_new, whole_of}
 
@@ -105,11 +105,7 @@ each_from_nothing (i ∷ is) [] = tt
 each_from_nothing (i ∷ is) (v ∷ vs) = (refl, each_from_nothing is vs)
 
 module _ (channels : List Channel) (cat : Entered) (files : Files) where
-  -- each of these was read
-  abbrev pub WereRead : List Read → Type 0
-  WereRead rs = AllByRecursion (λ (r : Read). IsWhole (schema_at channels r.channel) files (intervals_at cat r.channel) r.from r.to) rs
-
-  pub tables_read : (rs : List Read) (ts : List TableValue) → AllByRecursion (λ (r : Read). r.from ≡ 0) rs → AreTables channels cat files rs ts → WereRead rs
+  pub tables_read : (rs : List Read) (ts : List TableValue) → AllByRecursion (λ (r : Read). r.from ≡ 0) rs → AreTables channels cat files rs ts → AreWhole channels cat files rs
   tables_read [] ts from are = tt
   tables_read (r ∷ rs) [] from are = absurd are
   tables_read (r ∷ rs) (t ∷ ts) from are = (whole_of channels cat files r t are.0 from.0, tables_read rs ts from.1 are.1)
@@ -122,7 +118,7 @@ module _ (channels : List Channel) (cat : Entered) (files : Files) where
   damage_before (r ∷ rs) later file at (inl bad) = inl bad
   damage_before (r ∷ rs) later file at (inr more) = inr (more.0, damage_before rs later file at more.1)
 
-  damage_later : (rs later : List Read) (file at : ℕ) → WereRead rs → IsReadDamage channels cat files later file at → IsReadDamage channels cat files (rs ++ later) file at
+  damage_later : (rs later : List Read) (file at : ℕ) → AreWhole channels cat files rs → IsReadDamage channels cat files later file at → IsReadDamage channels cat files (rs ++ later) file at
   damage_later [] later file at whole bad = bad
   damage_later (r ∷ rs) later file at whole bad = inr (whole.0, damage_later rs later file at whole.1 bad)
 
@@ -140,12 +136,12 @@ module _ (channels : List Channel) (cat : Entered) (files : Files) where
   told_before rs later (Damaged file at) told = damage_before rs later file at told
   told_before rs later NoMemory told = tt
 
-  pub told_there : (rs : List Read) (r : Read) (later : List Read) (fault : BlockFault) → WereRead rs → OneTold channels cat files r fault → RunTold channels cat files (rs ++ r ∷ later) fault
+  pub told_there : (rs : List Read) (r : Read) (later : List Read) (fault : BlockFault) → AreWhole channels cat files rs → OneTold channels cat files r fault → RunTold channels cat files (rs ++ r ∷ later) fault
   told_there rs r later Disk whole told = tt
   told_there rs r later (Damaged file at) whole told = damage_later rs (r ∷ later) file at whole (inl told)
   told_there rs r later NoMemory whole told = tt
 
-  pub told_later : (rs : List Read) (r : Read) (later : List Read) (fault : BlockFault) → WereRead rs → IsWhole (schema_at channels r.channel) files (intervals_at cat r.channel) r.from r.to
+  pub told_later : (rs : List Read) (r : Read) (later : List Read) (fault : BlockFault) → AreWhole channels cat files rs → IsWhole (schema_at channels r.channel) files (intervals_at cat r.channel) r.from r.to
       → RunTold channels cat files later fault → RunTold channels cat files (rs ++ r ∷ later) fault
   told_later rs r later Disk whole here told = tt
   told_later rs r later (Damaged file at) whole here told = damage_later rs (r ∷ later) file at whole (inr (here, told))

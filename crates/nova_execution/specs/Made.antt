@@ -10,14 +10,19 @@ use Rattle.nova_channel.specs.Laws.{GivesBlocks}
 use Rattle.nova_meta.specs.declared.captured.Captured.{Captured}
 use Rattle.nova_meta.specs.Catalog.{Entered, shelf_at}
 use Rattle.nova_meta.specs.Wired.{wire_at}
-use Rattle.nova_machine.specs.Workflow.{Workflow, is_based, output_in, schema_in, task_in}
+use Rattle.nova_machine.specs.Workflow.{Workflow, is_based, main_place, output_in, plan_in, schema_in, task_in}
 use Rattle.nova_machine.specs.State.{Capture, State, block_at, kept_at, newest}
-use Rattle.nova_machine.specs.Due.{last_run}
+use Rattle.nova_machine.specs.Due.{cursor, last_run}
 use Rattle.nova_machine.specs.Steps.{add_run, next_span}
 use Rattle.nova_machine.specs.Reachable.{IsReachable}
 use Rattle.nova_trigger.specs.Due.{capture_in, last_in, task_at}
 use Rattle.nova_histories.specs.Made.{IsCurrent}
 pub use Rattle.nova_histories.specs.Planned.{IsPlannedFlow, task_plan}
+use Rattle.nova_pig_pattern.specs.declared.task.PatternKind.TheVariants.{Stateful}
+use Rattle.nova_groups.specs.State.{StateValue}
+use Rattle.nova_state.specs.Sorts.{plan_sorts}
+use Rattle.nova_execution.specs.Groups.{HasState, part_file, run_state, state_at}
+use Rattle.nova_execution.specs.declared.made.Made.{Made}
 use Rattle.nova_execution.specs.Reads.{Read, edges_of, intervals_at, run_reads}
 
 -- a catalog knows the inputs and the output of a task
@@ -37,7 +42,7 @@ pub record IsHeld (cat : Entered) (files : Files) (s : State) (r : Read) : Type 
   pub gives : GivesBlocks (schema_in s.flow r.channel) files (kept_at s r.channel).versions (intervals_at cat r.channel)
   pub there : r.to ≤ newest s r.channel
 
--- A state of the admitted workflow that commands reach, where this run begins or is in flight: the files have all that it reads there, and the task's last run and the newest version of its output are the catalog's.
+-- A state of the admitted workflow that commands reach, where this run begins or is in flight: the files have all that it reads there and no other state than that of the version at its cursor, and the task's last run and the newest version of its output are the catalog's.
 pub record IsHeldFor (a : Admission) (cat : Entered) (files : Files) (t : ℕ) (run : Captured) (s : State) : Type 0 where
   pub flow : IsOf a s.flow
   pub planned : IsPlannedFlow s.flow
@@ -46,6 +51,7 @@ pub record IsHeldFor (a : Admission) (cat : Entered) (files : Files) (t : ℕ) (
   pub last : last_run s t ≡ last_in cat t
   pub newest : newest s (output_in s.flow t) ≡ (shelf_at cat (output_in s.flow t)).version
   pub inputs : All (IsHeld cat files s) (run_reads (edges_of (task_in s.flow t)) cat t run.versions)
+  pub state : (plan_in s.flow t).pattern ≡ Stateful → (st : StateValue) → HasState (plan_sorts (plan_in s.flow t).plan) (part_file cat t) files st → st ≡ state_at s t (cursor s t (main_place (task_in s.flow t).inputs))
 
 -- the span of the version that a run makes
 abbrev pub run_span : State → ℕ → Span
@@ -54,3 +60,7 @@ run_span s t = next_span (is_based s.flow (output_in s.flow t)) (newest s (outpu
 -- the block of that version: from the version before it, or from 0 where the channel is written anew
 abbrev pub run_block : State → ℕ → Capture → DeltaValue
 run_block s t run = block_at (add_run s t run) (output_in s.flow t) (run_span s t).from (run_span s t).to
+
+-- a run makes this: the block of its version, and the state that it leaves
+abbrev pub IsRunOf : State → ℕ → Capture → Made → Type 0
+IsRunOf s t run x = (x.block ≡ run_block s t run) × (x.state ≡ run_state s t run)

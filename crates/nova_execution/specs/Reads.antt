@@ -1,5 +1,6 @@
 -- What a run of a task reads: each input, from where it begins to the version that the run captured.
 use Rattle.std.specs.Prelude.{◌⊎◌, ℕ, suc, ◌<◌, List, [], ◌∷◌, length, map, if◌then◌else◌, slice_index_or, sum_by}
+use Rattle.std.specs.List.{AllByRecursion}
 use Rattle.nova_value.specs.Rows.{Shape}
 use Rattle.nova_outside.specs.Disk.{Files}
 use Rattle.nova_delta.specs.Merge.{EntryMap, TableValue}
@@ -75,6 +76,10 @@ pub record IsWhole (s : Shape) (files : Files) (shelf : List Interval) (from to 
   pub chosen : IsRoute shelf from to route
   pub blocks : List EntryMap
   pub read : AreRead s files route blocks
+
+-- so it is with several reads
+abbrev pub AreWhole : List Channel → Entered → Files → List Read → Type 0
+AreWhole channels cat files rs = AllByRecursion (λ (r : Read). IsWhole (schema_at channels r.channel) files (intervals_at cat r.channel) r.from r.to) rs
 
 -- the first file on the chosen path that is none
 abbrev pub IsDamaged : List Channel → Entered → Files → Read → ℕ → ℕ → Type 0

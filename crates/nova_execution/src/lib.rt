@@ -2,10 +2,13 @@
 #![tactic(auto)]
 
 mod base;
+mod groups;
 mod inputs;
 mod laws;
+mod made;
 mod rows;
 mod runs;
 
 pub use laws::executions_are_runs;
+pub use made::Made;
 pub use runs::execute;

@@ -18,7 +18,7 @@ use nova_workflow::{Channel, Input};
 use std::alloc::{AllocError, Global};
 
 /// What is new of an input between two versions.
-fn read_new<H: Host>(
+pub(crate) fn read_new<H: Host>(
     alloc: Global,
     host: &mut H,
     channels: &[Channel],

@@ -1,4 +1,4 @@
-use Rattle.std.proofs.Common.{◌≡◌, ℕ, suc, ◌+◌, ◌-◌, ◌≤◌, ◌<◌, List, ◌∷◌, ◌++◌, length, map, take, drop, get_or, ap, sym, ◌∙◌, subst, arith}
+use Rattle.std.proofs.Common.{◌≡◌, ℕ, suc, ◌+◌, ◌-◌, List, ◌∷◌, ◌++◌, length, map, take, drop, get_or, ap, sym, ◌∙◌, subst, arith}
 use Rattle.std.specs.List.{All}
 use Rattle.std.proofs.lemmas.List.{map-append}
 use Rattle.std.proofs.lemmas.Result.{err_from_is_err_and}
@@ -7,8 +7,8 @@ use Rattle.nova_outside.specs.History.{Event, current}
 use Rattle.nova_delta.specs.Merge.{TableValue}
 use Rattle.nova_workflow.specs.declared.flow.Input.{Input}
 use Rattle.nova_machine.specs.Workflow.{no_input}
-use Rattle.nova_execution.specs.Reads.{AreTables, HasRoute, IsDamaged, IsReadDamage, OneTold, Read, RunTold, read_size, reads_size, schema_at, whole_reads}
-use Rattle.nova_execution.specs.Rows.{IsNew, row_reads, since}
+use Rattle.nova_execution.specs.Reads.{AreTables, HasRoute, IsDamaged, IsReadDamage, OneTold, Read, RunTold, reads_size, schema_at, whole_reads}
+use Rattle.nova_execution.specs.Rows.{IsNew, since}
 use Rattle.nova_execution.proofs.RowReads.{all_before, all_behind, at_main, each_from_nothing, new_read, none_damaged, size_of_parts, sliced, tables_read, told_before, told_later, told_there}
 use Rattle.nova_execution.proofs.rows.read_row_inputs.Goals as goal
 

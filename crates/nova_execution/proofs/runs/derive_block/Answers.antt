@@ -1,6 +1,4 @@
-use Rattle.std.proofs.Common.{◌≡◌, ℕ, suc, ◌<◌, List, ◌++◌, length, map, take, drop, get_or, Some, ap, sym, ◌∙◌, subst}
-use Rattle.std.specs.List.{All}
-use Rattle.nova_value.specs.Rows.{Shape}
+use Rattle.std.proofs.Common.{◌≡◌, suc, List, ◌++◌, map, take, drop, get_or, refl, ap, sym, ◌∙◌}
 use Rattle.nova_outside.specs.History.{current}
 use Rattle.nova_delta.specs.Listed.{rows_of}
 use Rattle.nova_delta.specs.Merge.{DeltaValue, TableValue}
@@ -9,10 +7,10 @@ use Rattle.nova_workflow.specs.declared.flow.Task.{Task}
 use Rattle.nova_pig_algebra.specs.Plan.{tree_of_plan}
 use Rattle.nova_meta.specs.Catalog.{captured, progress_at, shelf_at}
 use Rattle.nova_machine.specs.Workflow.{no_input}
-use Rattle.nova_rowwise.specs.Derived.{derived, main_of, put_at, with_main_schema}
+use Rattle.nova_rowwise.specs.Derived.{derived, main_of}
 use Rattle.nova_trigger.specs.Due.{task_at}
-use Rattle.nova_execution.specs.Reads.{HasRoute, edges_of, schema_at}
-use Rattle.nova_execution.specs.Rows.{AreRowInputs, block_behind, row_reads}
+use Rattle.nova_execution.specs.Reads.{schema_at}
+use Rattle.nova_execution.specs.Rows.{block_behind}
 use Rattle.nova_execution.proofs.Admission.{inputs_within}
 use Rattle.nova_execution.proofs.Deriving.{derived_schema}
 use Rattle.nova_execution.proofs.RowReads.{placed}
@@ -50,16 +48,18 @@ returns-clause-made g c honest =
     let from : c.cursor-from.result ≡ captured (progress_at cat t).last k = c.cursor-from.ensures ∙ ap (captured (progress_at cat t).last) place in
     let version : c.version.result ≡ (shelf_at cat (task_at f t).output).version = c.version.ensures ∙ ap (λ (u : Task). (shelf_at cat u.output).version) c.task_of-written.ensures in
     let delta : c.in_ok-delta.delta ≡ derived c.args.plan.now (map rows_of c.in_ok-read.read.lookups.items) c.in_ok-read.read.new =
-    c.in_ok-delta.ensures ∙ ap (λ (ts : List TableValue). derived c.args.plan.now (map rows_of ts) c.in_ok-read.read.new) c.deref.ensures.value in
-    record {
-      new = c.in_ok-read.read.new;
-      lookups = c.in_ok-read.read.lookups.items;
-      are = rw (c.as_slice-channels.ensures, inputs, c.as_slice-versions.ensures, from, place) at (c.in_ok-read.ensures.reads honest);
-      block = c.block_of.ensures ∙ (λ n. block_behind (version n) (delta n));
-    }
+    c.in_ok-delta.ensures ∙ ap (λ (ts : List TableValue). derived c.args.plan.now (map rows_of ts) c.in_ok-read.read.new) c.deref.ensures.value in (
+      record {
+        new = c.in_ok-read.read.new;
+        lookups = c.in_ok-read.read.lookups.items;
+        are = rw (c.as_slice-channels.ensures, inputs, c.as_slice-versions.ensures, from, place) at (c.in_ok-read.ensures.reads honest);
+        block = c.block_of-block.ensures ∙ (λ n. block_behind (version n) (delta n));
+      },
+      refl,
+    )
 
 pub returns-clause-schema : goal.returns-clause-schema
 returns-clause-schema g c =
-    ap (λ (d : DeltaValue). d.schema) c.block_of.ensures
+    ap (λ (d : DeltaValue). d.schema) c.block_of-block.ensures
     ∙ ap (λ (d : DeltaValue). d.schema) c.in_ok-delta.ensures
     ∙ derived_schema c.args.plan.now (map rows_of c.deref.result.now) c.in_ok-read.read.new

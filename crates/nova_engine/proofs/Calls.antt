@@ -22,7 +22,7 @@ use Rattle.nova_runner.specs.declared.opening.OpenFault.TheVariants as fault
 use Rattle.nova_runner.proofs.Shows.{current_replied}
 use Rattle.nova_engine.specs.declared.status.Status.{Status}
 use Rattle.nova_engine.specs.declared.status.Status.TheVariants as exit
-use Rattle.nova_engine.specs.Damage.{IsBadBlock, IsReadIn, TellsDamage}
+use Rattle.nova_engine.specs.Damage.{IsBadRead, IsReadIn, TellsDamage}
 use Rattle.nova_engine.specs.Ending.{DamageTold, EndsUnopened}
 use Rattle.nova_engine.specs.Seen.{Seen}
 use Rattle.nova_engine.specs.Sessions.{IsKeptBehind, OneMore, Ran, SessionTold, Took}
@@ -97,7 +97,7 @@ module _ (h : Bool) (store : Held) (ended_by : Status) (a m b : Seen) (opened : 
         (told_own crash input ran.taken ends opened.commits s stands told))));
   }
 
-  pub files_opened : (SourceLeft : Type 0) → (ended_by ≡ exit.NoStore → ⊥) → (ended_by ≡ exit.Damaged → TellsDamage (IsBadBlock (current b.history)) m.history b.history) → FilesTold ended_by SourceLeft a b
+  pub files_opened : (SourceLeft : Type 0) → (ended_by ≡ exit.NoStore → ⊥) → (ended_by ≡ exit.Damaged → TellsDamage (IsBadRead (current b.history)) m.history b.history) → FilesTold ended_by SourceLeft a b
   files_opened SourceLeft other tells = record {
     missing = λ none. absurd (marked_both (current a.history) store.journal.generation none (subst (λ (f : Files). IsMark f (Some store.journal.generation)) same opened.read.marked));
     bad = λ file at is. absurd (opened.good file at is);

@@ -1,5 +1,5 @@
 -- Damage that is told has its cause.
-use Rattle.std.proofs.Common.{◌≡◌, ◌⊎◌, inl, inr, ℕ, ◌<◌, Bool, List, [], ◌∷◌, ◌++◌, length, map, Result, Err, refl, sym, ap, ◌∙◌, append_assoc, subst}
+use Rattle.std.proofs.Common.{◌≡◌, ◌⊎◌, inl, inr, ℕ, ◌<◌, Bool, true, false, if◌then◌else◌, List, [], ◌∷◌, ◌++◌, length, map, None, Result, Err, refl, sym, ap, ◌∙◌, append_assoc, subst}
 use Rattle.std.proofs.lemmas.List.{append-nil}
 use Rattle.std.specs.Bool.{IsTrue}
 use Rattle.std.specs.List.{AllByRecursion}
@@ -13,10 +13,13 @@ use Rattle.nova_commit.specs.Commits.{commit_bytes}
 use Rattle.nova_commit.specs.declared.commit.Commit.{Commit}
 use Rattle.nova_commit.specs.declared.commit.Commit.TheVariants as commit
 use Rattle.nova_meta.specs.Catalog.{Entered, shelf_at}
-use Rattle.nova_machine.specs.Workflow.{Workflow, schema_in}
+use Rattle.nova_state.specs.Sorts.{plan_sorts}
+use Rattle.nova_machine.specs.Workflow.{Workflow, plan_in, schema_in}
+use Rattle.nova_machine.specs.Steps.{Run}
+use Rattle.nova_execution.specs.Groups.{IsStateDamage, part_file}
 use Rattle.nova_execution.specs.Reads.{IsReadDamage, Read}
 use Rattle.nova_script.specs.Replies as line
-use Rattle.nova_runner.specs.Acts.{newest_reads}
+use Rattle.nova_runner.specs.Acts.{IsStepDamage, keeps_in, newest_reads}
 use Rattle.nova_runner.specs.Held.{Held}
 use Rattle.nova_runner.specs.Opening.{AreInOrder, IsBadStore, IsRead, UnopenedTold}
 use Rattle.nova_channel.specs.Reading.{IsDamage}
@@ -40,7 +43,7 @@ use Rattle.nova_engine.specs.declared.status.Status.{Status}
 use Rattle.nova_engine.specs.declared.status.Status.TheVariants as exit
 use Rattle.nova_engine.specs.declared.stop.Stop.{Stop}
 use Rattle.nova_engine.specs.declared.stop.Stop.TheVariants as stop
-use Rattle.nova_engine.specs.Damage.{IsBadBlock, IsJournalOf, IsReadIn, TellsDamage}
+use Rattle.nova_engine.specs.Damage.{IsBadBlock, IsBadRead, IsBadState, IsJournalOf, IsReadIn, TellsDamage}
 use Rattle.nova_engine.specs.Ending.{DamageTold, EndsStopped, EndsUnopened}
 use Rattle.nova_engine.specs.Seen.{Seen}
 use Rattle.nova_engine.specs.Stopping.{why}
@@ -120,7 +123,7 @@ none_told s (stopped.NoMemory store) file at is none e = no_memory (sym is ∙ a
 
 -- a block that a `show` finds to be none is one of the store that its journal says
 pub shown_damage : (h : Bool) (store : Held) (c : ℕ) (s : Stop) (by : Unshown) (a b : List Event) → why s ≡ why_unshown by → IsReadIn h store a → c < length store.flow.channels
-    → (IsTrue h → ShownTold store c (current a) by) → (IsTrue h → (n : ℕ) → current b n ≡ current a n) → (file at : ℕ) → s ≡ stop.Damaged file at → IsTrue h → IsBadBlock (current b) file at
+    → (IsTrue h → ShownTold store c (current a) by) → (IsTrue h → (n : ℕ) → current b n ≡ current a n) → (file at : ℕ) → s ≡ stop.Damaged file at → IsTrue h → IsBadRead (current b) file at
 shown_damage h store c s unshown.Disk a b is read within told same file at e honest = absurd (no_disk (sym is ∙ ap why e))
   where
     no_disk : step.Disk ≡ step.Damaged file at → ⊥
@@ -148,7 +151,7 @@ shown_damage h store c s (unshown.Damaged other place) a b is read within told s
       hop = inl refl;
       damage = told honest;
     } in
-    subst (λ (f : Files). IsBadBlock f file at) (sym files) (subst (λ n. IsBadBlock (current a) n at) (file_of found) (subst (λ n. IsBadBlock (current a) other n) (place_of found) here))
+    subst (λ (f : Files). IsBadRead f file at) (sym files) (subst (λ n. IsBadRead (current a) n at) (file_of found) (subst (λ n. IsBadRead (current a) other n) (place_of found) (inl here)))
   where
     file_of : step.Damaged other place ≡ step.Damaged file at → other ≡ file
     file_of e = cc
@@ -222,9 +225,20 @@ bad_read files commits flow cat journal (r ∷ rs) within on file at (inl damage
 }
 bad_read files commits flow cat journal (r ∷ rs) within on file at (inr more) = bad_read files commits flow cat journal rs within.1 on.1 file at more.1
 
--- a block that a run finds to be none is one of the store that its journal says
+-- so it is with the state that it reads
+bad_state : (files : Files) (commits : List Commit) (flow : Workflow) (cat : Entered) → IsJournalOf files commits flow cat → (t : ℕ) → t < length flow.tasks → (b : Bool) → keeps_in flow t ≡ b
+    → (file at : ℕ) → IsStateDamage (plan_sorts (plan_in flow t).plan) (if b then part_file cat t else None) files file at → IsBadState files file at
+bad_state files commits flow cat journal t lt true keeps file at damage = record { commits = commits; flow = flow; catalog = cat; journal = journal; task = t; in_range = lt; keeps = keeps; damage = damage }
+bad_state files commits flow cat journal t lt false keeps file at damage = absurd damage
+
+bad_run : (files : Files) (commits : List Commit) (flow : Workflow) (cat : Entered) → IsJournalOf files commits flow cat → (t : ℕ) → t < length flow.tasks → AllByRecursion (λ (r : Read). r.channel < length flow.channels) (newest_reads cat t)
+    → (file at : ℕ) → IsStepDamage flow cat files (Run t) file at → IsBadRead files file at
+bad_run files commits flow cat journal t lt within file at (inl damage) = inl (bad_read files commits flow cat journal (newest_reads cat t) within (reads_on cat t) file at damage)
+bad_run files commits flow cat journal t lt within file at (inr damage) = inr (bad_state files commits flow cat journal t lt (keeps_in flow t) refl file at damage.1)
+
+-- what a run finds bad is of the store that its journal says
 pub ran_damage : (h : Bool) (store : Held) (t : ℕ) (s : Stop) (by : Stopped) (a b : List Event) → why s ≡ why_of by → IsReadIn h store a → t < length store.flow.tasks
-    → (IsTrue h → StopDamage store t (current a) by) → (IsNoFailedCall by → IsTrue h → b ≡ a) → (file at : ℕ) → s ≡ stop.Damaged file at → IsTrue h → IsBadBlock (current b) file at
+    → (IsTrue h → StopDamage store t (current a) by) → (IsNoFailedCall by → IsTrue h → b ≡ a) → (file at : ℕ) → s ≡ stop.Damaged file at → IsTrue h → IsBadRead (current b) file at
 ran_damage h store t s stopped.Disk a b is read lt told same file at e honest = absurd (no_disk (sym is ∙ ap why e))
   where
     no_disk : step.Disk ≡ step.Damaged file at → ⊥
@@ -241,10 +255,10 @@ ran_damage h store t s (stopped.Damaged other place) a b is read lt told same fi
     let found : step.Damaged other place ≡ step.Damaged file at = sym is ∙ ap why e in
     let own = read honest in
     let flow = flow_read own.0 store.flow store.catalog own.1.in_order in
-    let here : IsBadBlock (current a) other place =
-    bad_read (current a) own.0 store.flow store.catalog (record { generation = store.journal.generation; marked = own.1.marked; log = own.1.log.log; in_order = own.1.in_order })
-    (newest_reads store.catalog t) (reads_there store.flow flow.0 store.catalog flow.1 t lt) (reads_on store.catalog t) other place (told honest) in
-    subst (λ (x : List Event). IsBadBlock (current x) file at) (sym (same tt honest)) (subst (λ n. IsBadBlock (current a) n at) (file_of found) (subst (λ n. IsBadBlock (current a) other n) (place_of found) here))
+    let here : IsBadRead (current a) other place =
+    bad_run (current a) own.0 store.flow store.catalog (record { generation = store.journal.generation; marked = own.1.marked; log = own.1.log.log; in_order = own.1.in_order })
+    t lt (reads_there store.flow flow.0 store.catalog flow.1 t lt) other place (told honest) in
+    subst (λ (x : List Event). IsBadRead (current x) file at) (sym (same tt honest)) (subst (λ n. IsBadRead (current a) n at) (file_of found) (subst (λ n. IsBadRead (current a) other n) (place_of found) here))
   where
     file_of : step.Damaged other place ≡ step.Damaged file at → other ≡ file
     file_of e = cc
@@ -262,8 +276,8 @@ module _ (h : Bool) (honest : IsTrue h) (m b : Seen) where
   told_files file at told = λ i n. current_replied m.history b.history (line.damaged file at) (told.given honest) n i
 
   -- a session that stopped
-  pub stop_tells : (reason : Stop) (s : Status) → EndsStopped h reason s m b → ((file at : ℕ) → reason ≡ stop.Damaged file at → IsBadBlock (current m.history) file at) → s ≡ exit.Damaged
-      → TellsDamage (IsBadBlock (current b.history)) m.history b.history
+  pub stop_tells : (reason : Stop) (s : Status) → EndsStopped h reason s m b → ((file at : ℕ) → reason ≡ stop.Damaged file at → IsBadRead (current m.history) file at) → s ≡ exit.Damaged
+      → TellsDamage (IsBadRead (current b.history)) m.history b.history
   stop_tells stop.Disk s ends cause e = absurd (no_disk (sym ends.0 ∙ e))
     where
       no_disk : exit.DiskFault ≡ exit.Damaged → ⊥
@@ -285,14 +299,14 @@ module _ (h : Bool) (honest : IsTrue h) (m b : Seen) where
       record {
         file = file;
         at = at;
-        cause = subst (λ (f : Files). IsBadBlock f file at) (sym (told_files file at told)) (cause file at refl);
+        cause = subst (λ (f : Files). IsBadRead f file at) (sym (told_files file at told)) (cause file at refl);
         given = [];
         told = told_line file at told;
       }
 
   -- a store that wasn't opened
   pub unopened_tells : (files : Files) (by : OpenFault) (s : Status) → UnopenedTold by files → EndsUnopened h by s m b → s ≡ exit.Damaged
-      → TellsDamage (λ file at. IsBadStore files file at ⊎ IsBadBlock (current b.history) file at) m.history b.history
+      → TellsDamage (λ file at. IsBadStore files file at ⊎ IsBadRead (current b.history) file at) m.history b.history
   unopened_tells files fault.Disk s why ends e = absurd (no_disk (sym ends.0 ∙ e))
     where
       no_disk : exit.DiskFault ≡ exit.Damaged → ⊥
@@ -310,7 +324,7 @@ module _ (h : Bool) (honest : IsTrue h) (m b : Seen) where
       record { file = file; at = at; cause = inl why; given = []; told = told_line file at told }
 
 -- what a session told, told of the whole call
-pub either_tells : (files : Files) (a b : List Event) → TellsDamage (IsBadBlock (current b)) a b → TellsDamage (λ file at. IsBadStore files file at ⊎ IsBadBlock (current b) file at) a b
+pub either_tells : (files : Files) (a b : List Event) → TellsDamage (IsBadRead (current b)) a b → TellsDamage (λ file at. IsBadStore files file at ⊎ IsBadRead (current b) file at) a b
 either_tells files a b tells = record { file = tells.file; at = tells.at; cause = inr tells.cause; given = tells.given; told = tells.told }
 
 -- ---- replies grow

@@ -1,7 +1,6 @@
 -- One step, and the reply that tells it.
 use Rattle.std.proofs.Common.{◌≡◌, ℕ, ◌+◌, ◌≤◌, Bool, List, [], ◌∷◌, ◌++◌, Option, None, refl, sym, ap, ◌∙◌, subst, arith}
 use Rattle.std.proofs.lemmas.List.{append-nil}
-use Rattle.nova_value.specs.declared.schema.Entry.{Entry}
 use Rattle.nova_delta.specs.Merge.{DeltaValue}
 use Rattle.nova_outside.specs.History.{Event, current, replies}
 use Rattle.nova_outside.specs.Replies.{Gives, GivesInPart, HasReplied, HasRepliedInPart}

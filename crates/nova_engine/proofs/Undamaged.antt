@@ -1,5 +1,5 @@
 -- What steps read no later step changes.
-use Rattle.std.proofs.Common.{◌≡◌, ◌⊎◌, inl, inr, ℕ, ◌+◌, ◌<◌, ◌≤◌, List, [], ◌∷◌, ◌++◌, length, Option, Some, None, sym, ap, ◌∙◌, subst, arith}
+use Rattle.std.proofs.Common.{◌≡◌, ◌⊎◌, inl, inr, ℕ, ◌+◌, ◌<◌, ◌≤◌, Bool, true, false, if◌then◌else◌, List, [], ◌∷◌, ◌++◌, length, map, Option, Some, None, refl, sym, ap, ◌∙◌, subst, arith}
 use Rattle.std.specs.List.{AllByRecursion}
 use Rattle.nova_value.specs.Rows.{Shape}
 use Rattle.nova_outside.specs.Disk.{Files}
@@ -12,16 +12,22 @@ use Rattle.nova_commit.specs.declared.commit.Commit.{Commit}
 use Rattle.nova_commit.specs.declared.commit.Commit.TheVariants as commit
 use Rattle.nova_meta.specs.Catalog.{Entered, applied, shelf_at}
 use Rattle.nova_meta.specs.Named.{Channel, Content, Names, State as StatePart}
-use Rattle.nova_machine.specs.Workflow.{Workflow, schema_in}
+use Rattle.nova_commit.specs.declared.commit.PartFile.{PartFile}
+use Rattle.nova_meta.specs.declared.progress.StateFile.{StateFile}
+use Rattle.nova_group_codec.specs.Sorts.{SortsValue}
+use Rattle.nova_state.specs.Sorts.{plan_sorts}
+use Rattle.nova_state_part.specs.Files.{DamagedPartAt}
+use Rattle.nova_machine.specs.Workflow.{Workflow, plan_in, schema_in}
 use Rattle.nova_delta.specs.Merge.{EntryMap}
 use Rattle.nova_row_codec.specs.Spelling.{spelling_of}
 use Rattle.nova_workflow.specs.declared.flow.Channel.{Channel as Seen}
 use Rattle.nova_machine.specs.Due.{capture_of}
+use Rattle.nova_execution.specs.Groups.{IsStateDamage, part_file, run_state}
 use Rattle.nova_execution.specs.Made.{run_block}
-use Rattle.nova_execution.specs.Reads.{IsReadDamage, Read, schema_at}
+use Rattle.nova_execution.specs.Reads.{AreWhole, IsReadDamage, Read, schema_at}
 use Rattle.nova_machine.specs.State.{State, newest}
 use Rattle.nova_machine.specs.Steps.{Step, Load, Run, Show, Tick, after, after_all}
-use Rattle.nova_runner.specs.Acts.{IsStepDamage, MayChange, behind, catalog_behind, newest_reads, own_commit}
+use Rattle.nova_runner.specs.Acts.{IsStepDamage, MayChange, behind, catalog_behind, keeps_in, kept_spelling, newest_reads, own_commit, parts_of}
 use Rattle.nova_runner.specs.Files.{IsNamed, Piece, bytes_of}
 use Rattle.nova_runner.specs.Held.{Held}
 use Rattle.nova_runner.specs.Steps.{StoreStands}
@@ -48,7 +54,7 @@ tick_below cat m below (StatePart t part) b z named = below (record { content = 
 below_step : (cat : Entered) (s : State) (x : Step) → AreBelow cat → AreBelow (catalog_behind cat (own_commit cat s x))
 below_step cat s (Load c entries) below =
     λ p named. below_next cat c (length (bytes_of (after s (Load c entries)) (Channel c (newest s c) (newest s c + 1)))) below p.content p.block p.size named
-below_step cat s (Run t) below = λ p named. let lt = below_run cat t (capture_of s t) (length (spelling_of (run_block s t (capture_of s t)))) below p.content p.block p.size named in omega (arith, lt)
+below_step cat s (Run t) below = λ p named. below_run cat t (capture_of s t) (keeps_in s.flow t) (length (spelling_of (run_block s t (capture_of s t)))) (length (kept_spelling (run_state s t (capture_of s t)))) below p.content p.block p.size named
 below_step cat s (Tick m) below = λ p named. tick_below cat m below p.content p.block p.size named
 below_step cat s _ below = below
 
@@ -104,6 +110,29 @@ reads_moved channels cat old new each (r ∷ rs) file at (inr (read, more)) = in
   reads_moved channels cat old new each rs file at more,
 )
 
+-- and what they find whole
+whole_moved : (channels : List Seen) (cat : Entered) (old new : Files) → ((c : ℕ) (y : Interval) → IsOneOf (shelf_at cat c).intervals y → SameBlock old new y) → (rs : List Read) → AreWhole channels cat new rs → AreWhole channels cat old rs
+whole_moved channels cat old new each [] whole = tt
+whole_moved channels cat old new each (r ∷ rs) whole = (
+  record {
+    route = whole.0.route;
+    chosen = whole.0.chosen;
+    blocks = whole.0.blocks;
+    read = all_read (schema_at channels r.channel) old new whole.0.route whole.0.blocks (all_same old new (shelf_at cat r.channel).intervals whole.0.route (each r.channel) whole.0.chosen.within) whole.0.read;
+  },
+  whole_moved channels cat old new each rs whole.1,
+)
+
+-- what a state's file is damaged at
+part_moved : (sorts : SortsValue) (o : Option StateFile) (old new : Files) → ((f : StateFile) → o ≡ Some f → new (block_file f.block) ≡ old (block_file f.block)) → (file at : ℕ) → IsStateDamage sorts o new file at → IsStateDamage sorts o old file at
+part_moved sorts None old new same file at damage = damage
+part_moved sorts (Some f) old new same file at (is, damage) = (is, subst (λ c. DamagedPartAt sorts f.size c at) (ap new is ∙ same f refl ∙ ap old (sym is)) damage)
+
+state_moved : (sorts : SortsValue) (cat : Entered) (old new : Files) (t : ℕ) → ((f : StateFile) → part_file cat t ≡ Some f → new (block_file f.block) ≡ old (block_file f.block)) → (b : Bool) (file at : ℕ)
+    → IsStateDamage sorts (if b then part_file cat t else None) new file at → IsStateDamage sorts (if b then part_file cat t else None) old file at
+state_moved sorts cat old new t same true file at damage = part_moved sorts (part_file cat t) old new same file at damage
+state_moved sorts cat old new t same false file at damage = damage
+
 damage_moved : (flow : Workflow) (cat : Entered) (old new : Files) (x : Step) (file at : ℕ) → AreBelow cat → ReadsBelow cat.next old new → IsStepDamage flow cat new x file at → IsStepDamage flow cat old x file at
 damage_moved flow cat old new (Show c) file at below same damage = record {
   route = damage.route;
@@ -112,8 +141,13 @@ damage_moved flow cat old new (Show c) file at below same damage = record {
       (all_same old new (shelf_at cat c).intervals damage.route
       (λ y one. same y.block (below (record { content = Channel c y.from y.to; block = y.block; size = y.size }) one)) damage.chosen.within) damage.bad;
 }
-damage_moved flow cat old new (Run t) file at below same damage =
-    reads_moved flow.channels cat old new (λ c y one. same y.block (below (record { content = Channel c y.from y.to; block = y.block; size = y.size }) one)) (newest_reads cat t) file at damage
+damage_moved flow cat old new (Run t) file at below same (inl damage) =
+    inl (reads_moved flow.channels cat old new (λ c y one. same y.block (below (record { content = Channel c y.from y.to; block = y.block; size = y.size }) one)) (newest_reads cat t) file at damage)
+damage_moved flow cat old new (Run t) file at below same (inr damage) =
+    inr (
+      whole_moved flow.channels cat old new (λ c y one. same y.block (below (record { content = Channel c y.from y.to; block = y.block; size = y.size }) one)) (newest_reads cat t) damage.0,
+      state_moved (plan_sorts (plan_in flow t).plan) cat old new t (λ f named. same f.block (below (record { content = StatePart t 0; block = f.block; size = f.size }) named)) (keeps_in flow t) file at damage.1,
+    )
 damage_moved flow cat old new _ file at below same damage = damage
 
 -- steps without damage are so in later files
@@ -133,6 +167,11 @@ none_append files cat s (x ∷ xs) ys none more = (none.0, none_append files (ca
 
 -- ---- files that steps may change
 
+not_part : (keeps : Bool) (next size b block : ℕ) → b < next → IsOneOf (map (λ (p : PartFile). p.block) (parts_of keeps next size)) block → block_file b ≡ block_file block → ⊥
+not_part true next size b block lt (inl e) is = omega (arith, lt, e, is)
+not_part true next size b block lt (inr none) is = none
+not_part false next size b block lt none is = none
+
 -- a step's commit brings no block below the next number
 pub not_own : (g : ℕ) (cat : Entered) (s : State) (x : Step) (b : ℕ) → b < cat.next → MayChange g (own_commit cat s x) (block_file b) → ⊥
 not_own g cat s (Load c entries) b lt (inl journal) = omega (arith, journal)
@@ -140,7 +179,7 @@ not_own g cat s (Load c entries) b lt (inr (block, inl e, is)) = omega (arith, l
 not_own g cat s (Load c entries) b lt (inr (block, inr none, is)) = none
 not_own g cat s (Run t) b lt (inl journal) = omega (arith, journal)
 not_own g cat s (Run t) b lt (inr (block, inl e, is)) = omega (arith, lt, e, is)
-not_own g cat s (Run t) b lt (inr (block, inr none, is)) = none
+not_own g cat s (Run t) b lt (inr (block, inr more, is)) = not_part (keeps_in s.flow t) cat.next _ b block lt more is
 not_own g cat s (Tick m) b lt (inl journal) = omega (arith, journal)
 not_own g cat s (Tick m) b lt (inr (block, none, is)) = none
 not_own g cat s _ b lt may = may

@@ -1,5 +1,5 @@
 -- What damage is told of, whatever the files stand for.
-use Rattle.std.specs.Prelude.{◌≡◌, ℕ, ◌<◌, Bool, List, ◌++◌, length, map, Some, IsTrue}
+use Rattle.std.specs.Prelude.{◌≡◌, ◌⊎◌, ℕ, ◌<◌, Bool, true, List, ◌++◌, length, map, Some, IsTrue}
 use Rattle.nova_outside.specs.Disk.{Files}
 use Rattle.nova_outside.specs.History.{Event, current, replies}
 use Rattle.nova_journal.specs.Log.{IsLog}
@@ -8,8 +8,10 @@ use Rattle.nova_channel.specs.Reading.{IsDamage}
 use Rattle.nova_commit.specs.Commits.{commit_bytes}
 use Rattle.nova_commit.specs.declared.commit.Commit.{Commit}
 use Rattle.nova_meta.specs.Catalog.{Entered, shelf_at}
-use Rattle.nova_machine.specs.Workflow.{Workflow, schema_in}
-use Rattle.nova_runner.specs.Acts.{IsHop}
+use Rattle.nova_state.specs.Sorts.{plan_sorts}
+use Rattle.nova_execution.specs.Groups.{IsStateDamage, part_file}
+use Rattle.nova_machine.specs.Workflow.{Workflow, plan_in, schema_in}
+use Rattle.nova_runner.specs.Acts.{IsHop, keeps_in}
 use Rattle.nova_runner.specs.Files.{journal_file}
 use Rattle.nova_runner.specs.Held.{Held}
 use Rattle.nova_runner.specs.Opening.{AreInOrder, IsRead}
@@ -33,6 +35,21 @@ pub record IsBadBlock (files : Files) (file at : ℕ) : Type 0 where
   pub from : ℕ
   pub hop : IsHop catalog channel from
   pub damage : IsDamage (schema_in flow channel) files (shelf_at catalog channel).intervals from (shelf_at catalog channel).version file at
+
+-- By the catalog of their journal, the state of a grouping task is in this file, and from this place on the file spells none.
+pub record IsBadState (files : Files) (file at : ℕ) : Type 0 where
+  pub commits : List Commit
+  pub flow : Workflow
+  pub catalog : Entered
+  pub journal : IsJournalOf files commits flow catalog
+  pub task : ℕ
+  pub in_range : task < length flow.tasks
+  pub keeps : keeps_in flow task ≡ true
+  pub damage : IsStateDamage (plan_sorts (plan_in flow task).plan) (part_file catalog task) files file at
+
+-- what a step reads is bad
+abbrev pub IsBadRead : Files → ℕ → ℕ → Type 0
+IsBadRead files file at = IsBadBlock files file at ⊎ IsBadState files file at
 
 -- Replies were given from then on, the last of them the line that tells a file and a place, and these have this cause.
 pub record TellsDamage (Cause : ℕ → ℕ → Type 0) (a b : List Event) : Type 0 where

@@ -59,14 +59,12 @@ abbrev pub script_line : List ℕ → ScriptFault → List ℕ
 script_line task (script.Parse why) = parse_line task why
 script_line task (script.Plan why) = plan_line task why
 
--- a task of a pattern whose runs aren't built yet has number 7
 abbrev pub admit_line : AdmitFault → List ℕ
 admit_line (admit.Script task why) = script_line task why
 admit_line (admit.NoKey task) = task_refused 2 (codes "no-key") task None
 admit_line (admit.KeyDiffers task) = task_refused 3 (codes "key-differs") task None
 admit_line (admit.BaseReadAsNew task channel) = task_refused 4 (codes "base-read-as-new") task (Some channel)
 admit_line (admit.NotAPattern task) = task_refused 5 (codes "not-a-pattern") task None
-admit_line (admit.NotBuilt task) = task_refused 7 (codes "not-built") task None
 admit_line admit.NoMemory = memory_line
 
 abbrev pub refused_line : TextFault → List ℕ

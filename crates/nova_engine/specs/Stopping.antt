@@ -5,7 +5,7 @@ use Rattle.nova_outside.specs.Causes.{Rose}
 use Rattle.nova_outside.specs.History.{Begins, Event, current, replies}
 use Rattle.nova_runner.specs.Steps.{Why}
 use Rattle.nova_runner.specs.Steps as step
-use Rattle.nova_engine.specs.Damage.{IsBadBlock}
+use Rattle.nova_engine.specs.Damage.{IsBadRead}
 use Rattle.nova_engine.specs.declared.stop.Stop.{Stop}
 use Rattle.nova_engine.specs.declared.stop.Stop.TheVariants as stop
 
@@ -26,4 +26,4 @@ pub record HasStopCause {D T : Type 0} (H : host.Ghosts D) (old new : D) (result
   pub reply_later : H.reply_faults old ≤ H.reply_faults new
   pub disk_rose : IsErrOf result stop.Disk → Rose (H.disk_faults old) (H.disk_faults new)
   pub reply_rose : IsErrOf result stop.Reply → Rose (H.reply_faults old) (H.reply_faults new)
-  pub damage : (file at : ℕ) → IsErrOf result (stop.Damaged file at) → IsTrue H.is_honest → IsBadBlock (current (H.history new)) file at
+  pub damage : (file at : ℕ) → IsErrOf result (stop.Damaged file at) → IsTrue H.is_honest → IsBadRead (current (H.history new)) file at

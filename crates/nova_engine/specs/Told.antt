@@ -15,7 +15,7 @@ use Rattle.nova_runner.specs.Files.{IsSettled, journal_file, mark_file}
 use Rattle.nova_runner.specs.Making.{NoLaterMarks}
 use Rattle.nova_runner.specs.Opening.{IsBadStore}
 use Rattle.nova_runner.specs.Stands.{FilesStand, StandsBut}
-use Rattle.nova_engine.specs.Damage.{IsBadBlock, TellsDamage}
+use Rattle.nova_engine.specs.Damage.{IsBadRead, TellsDamage}
 use Rattle.nova_runner.specs.Texts.{HasFault, HasFlow}
 use Rattle.nova_runner.specs.declared.text.TextFault.{TextFault}
 use Rattle.nova_engine.specs.Refused.{refused_line}
@@ -148,7 +148,7 @@ pub record FilesTold (status : Status) (SourceLeft : Type 0) (a b : Seen) : Type
   pub bad : (file at : ℕ) → IsBadStore (current a.history) file at → BadTold status file at a b × LeftAlone SourceLeft a b
   pub no_store : status ≡ exit.NoStore → IsMark (current a.history) None
   -- 9 has its cause: the files were a bad store, or a block of the store that they are now is none
-  pub damaged : status ≡ exit.Damaged → TellsDamage (λ file at. IsBadStore (current a.history) file at ⊎ IsBadBlock (current b.history) file at) a.history b.history
+  pub damaged : status ≡ exit.Damaged → TellsDamage (λ file at. IsBadStore (current a.history) file at ⊎ IsBadRead (current b.history) file at) a.history b.history
   -- without a mark nothing was read, and of a bad store no more than its journal
   pub missing_reads : IsMark (current a.history) None → b.read ≡ a.read
   pub bad_reads : (file at : ℕ) → IsBadStore (current a.history) file at → b.read ≤ a.read + file_length (current a.history file)

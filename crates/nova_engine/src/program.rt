@@ -4,7 +4,7 @@ ghost use Rattle.std.specs.Io.KnownBytes.{Consumes, Keeps, IsAtEnd};
 ghost use Rattle.nova_outside.specs.Causes.{HasCause, Rose};
 ghost use Rattle.nova_outside.specs.History.{current};
 ghost use Rattle.nova_journal.specs.Marks.{IsMark};
-ghost use Rattle.nova_engine.specs.Damage.{IsBadBlock, IsReadIn, TellsDamage};
+ghost use Rattle.nova_engine.specs.Damage.{IsBadRead, IsReadIn, TellsDamage};
 ghost use Rattle.nova_engine.specs.Call.{AsksInit, AsksNothing, AsksRun};
 ghost use Rattle.nova_engine.specs.Loading.{line_count};
 ghost use Rattle.nova_engine.specs.Moves.{EndsWhole};
@@ -76,7 +76,7 @@ fn end_whole<H: Host>(reader: LineReader, alloc: Global, host: &mut H) -> Status
     requires in_host { IsReadIn H.is_honest reader.session.store (H.history host.old) }
     ensures status { IsSessionEnd result }
     ensures told { EndsWhole H.is_honest reader result (seen H.Host host.old) (seen H.Host host.new) }
-    ensures damage { IsTrue H.is_honest → result ≡ Status.Damaged → TellsDamage (IsBadBlock (current (H.history host.new))) (H.history host.old) (H.history host.new) }
+    ensures damage { IsTrue H.is_honest → result ≡ Status.Damaged → TellsDamage (IsBadRead (current (H.history host.new))) (H.history host.old) (H.history host.new) }
     ensures disk { result ≡ Status.DiskFault → Rose (H.disk_faults host.old) (H.disk_faults host.new) }
     ensures reply { result ≡ Status.ReplyFault → Rose (H.reply_faults host.old) (H.reply_faults host.new) }
     ensures disk_later { H.disk_faults host.old ≤ H.disk_faults host.new }
@@ -100,7 +100,7 @@ fn run_session<S: Source, H: Host>(
     ensures read { result ≡ Status.ReadFault → Rose (S.faults source.old) (S.faults source.new) }
     ensures disk { result ≡ Status.DiskFault → Rose (H.disk_faults host.old) (H.disk_faults host.new) }
     ensures reply { result ≡ Status.ReplyFault → Rose (H.reply_faults host.old) (H.reply_faults host.new) }
-    ensures damage { IsTrue H.is_honest → result ≡ Status.Damaged → TellsDamage (IsBadBlock (current (H.history host.new))) (H.history host.old) (H.history host.new) }
+    ensures damage { IsTrue H.is_honest → result ≡ Status.Damaged → TellsDamage (IsBadRead (current (H.history host.new))) (H.history host.old) (H.history host.new) }
     ensures ran { (input : List ℕ) → S.left source.old ≡ Some input → Ran result H.is_honest store input (S.left source.new) (seen H.Host host.old) (seen H.Host host.new) }
 {
     let mut reader = opened(alloc, store);

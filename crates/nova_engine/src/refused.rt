@@ -98,7 +98,6 @@ fn admit_reply(fault: &AdmitFault) -> Reply
             Reply::task_refused(4, "base-read-as-new", task, Some(channel))
         }
         AdmitFault::NotAPattern { task } => Reply::task_refused(5, "not-a-pattern", task, None),
-        AdmitFault::NotBuilt { task } => Reply::task_refused(7, "not-built", task, None),
         AdmitFault::NoMemory => memory_reply(),
     }
 }

@@ -1,37 +1,29 @@
 -- What a store asks of a load's commit.
-use Rattle.std.proofs.Common.{◌≡◌, ◌≢◌, inl, inr, ℕ, ◌+◌, ◌<◌, ◌≤◌, ◌^◌, ◌==◌, Bool, true, false, ◌&&◌, [], ◌∷◌, ◌++◌, length, refl, ap, sym, ◌∙◌, subst, arith, sum_by, if◌then◌else◌}
+use Rattle.std.proofs.Common.{◌≡◌, ◌≢◌, inl, inr, ℕ, ◌+◌, ◌<◌, ◌≤◌, ◌^◌, ◌==◌, Bool, true, false, ◌&&◌, [], ◌∷◌, length, refl, ap, sym, ◌∙◌, subst, arith, sum_by, if◌then◌else◌}
 use Rattle.std.specs.Prelude.{nat_lt, nat_le}
-use Rattle.std.specs.List.{AllByRecursion}
 use Rattle.std.proofs.lemmas.Bool.Decides.{nat_tests}
-use Rattle.std.proofs.lemmas.List.{length-set}
 use Rattle.nova_path.specs.Lists.{IsOneOf}
-use Rattle.nova_path.specs.Shelf.{Span, HasPath}
-use Rattle.nova_path.specs.Intervals.{size_of, spans}
+use Rattle.nova_path.specs.Intervals.{size_of}
 use Rattle.nova_path.specs.declared.interval.Interval.{Interval}
-use Rattle.nova_path.proofs.Paths.{path_append, path_grows}
 use Rattle.nova_channel.specs.Reading.{AreNumbered}
-use Rattle.nova_meta.specs.Catalog.{Entered, Shelved, allows, applied, bound, interval_of, may_rise, next_shelf, nothing_shelved, placed, shelf_at, total}
+use Rattle.nova_meta.specs.Catalog.{Entered, Shelved, allows, applied, bound, interval_of, may_rise, next_shelf, nothing_shelved, shelf_at, total}
 use Rattle.nova_meta.specs.Named.{Channel, Content, Names, State as StatePart}
 use Rattle.nova_meta.specs.Wired.{is_based, is_input}
 use Rattle.nova_commit.specs.declared.commit.Commit.TheVariants as commit
 use Rattle.nova_meta.proofs.Allowed.{and_both}
 use Rattle.nova_meta.proofs.Sound.{sound_step}
-use Rattle.nova_meta.proofs.Shelved.{next_kept, placed_all}
+use Rattle.nova_meta.proofs.Shelved.{placed_all}
 use Rattle.nova_machine.specs.Workflow.{Workflow, is_input as flow_input}
-use Rattle.nova_machine.specs.State.{with_span}
 use Rattle.nova_machine.proofs.Growth.{at_set}
-use Rattle.nova_machine.proofs.Shelves.{shelved, shelve_more}
 use Rattle.nova_runner.specs.Acts.{has_room}
 use Rattle.nova_runner.specs.Committing.{AreSpare}
 use Rattle.nova_runner.specs.Files.{IsNamed, Piece}
 use Rattle.nova_runner.specs.Readable.{IsReadable}
-use Rattle.nova_meta.specs.Shelves.{IsShelved}
 use Rattle.nova_runner.specs.Texts.{HasFlow}
 use Rattle.nova_runner.specs.Workflow.{wiring_of}
 use Rattle.nova_runner.specs.declared.ready.Fresh.{Fresh}
 use Rattle.nova_runner.proofs.Leading.{which}
-use Rattle.nova_runner.proofs.Flows.{free_known, input_known}
-use Rattle.nova_runner.proofs.Loading.{spans_placed}
+use Rattle.nova_runner.proofs.Flows.{input_known}
 
 equal_itself : (n : ℕ) → (n == n) ≡ true
 equal_itself n = grind (arith, nat_tests)

@@ -1,15 +1,15 @@
 -- What a store captures and reads is what its state has.
-use Rattle.std.proofs.Common.{◌≡◌, inl, ℕ, suc, ◌≤◌, List, [], ◌∷◌, map, ap, sym, ◌∙◌, subst, arith}
+use Rattle.std.proofs.Common.{◌≡◌, inl, ℕ, suc, ◌<◌, List, [], ◌∷◌, length, map, ap, sym, ◌∙◌, subst, arith}
 use Rattle.std.specs.List.{All}
 use Rattle.std.proofs.lemmas.List.Elements.{All-cons, All-nil}
 use Rattle.nova_outside.specs.History.{Event, current}
 use Rattle.nova_workflow.specs.declared.flow.Input.{Input}
 use Rattle.nova_commit.specs.declared.commit.Commit.{Commit}
 use Rattle.nova_meta.specs.Catalog.{shelf_at}
-use Rattle.nova_machine.specs.Workflow.{TaskPlan, Workflow, output_in, task_in}
+use Rattle.nova_machine.specs.Workflow.{Workflow, output_in, task_in}
 use Rattle.nova_machine.specs.State.{State, newest}
 use Rattle.nova_machine.specs.Due.{capture_of}
-use Rattle.nova_trigger.specs.Due.{capture_in, captured_of, newest_in}
+use Rattle.nova_trigger.specs.Due.{capture_in, newest_in}
 use Rattle.nova_trigger.proofs.Machine.{captures_are_the_machines}
 use Rattle.nova_admit.specs.Flows.{Admission}
 use Rattle.nova_execution.specs.Made.{IsHeld, IsHeldFor, IsOf}
@@ -21,7 +21,7 @@ use Rattle.nova_runner.specs.Steps.{StoreStands}
 use Rattle.nova_runner.specs.Texts.{workflow_of}
 use Rattle.nova_runner.proofs.Beginning.{stand_for}
 use Rattle.nova_runner.proofs.Flows.{own}
-use Rattle.nova_runner.proofs.Stored.{gives}
+use Rattle.nova_runner.proofs.Stored.{gives, one_state}
 
 -- the workflow of a store is the admitted one, and so is its state's
 pub of_admitted : (adm : Admission) (text : List ℕ) (w v : Workflow) → workflow_of text adm.flow adm.patterns ≡ w → w ≡ v → IsOf adm v
@@ -46,8 +46,8 @@ module _ (store : Held) (commits : List Commit) (s : State) (a : List Event) (st
       (record { gives = gives store.journal.generation commits store.catalog (current a) s stands.reached stands.by i.channel; there = omega (arith, there) })
       (held cursor (suc k) is)
 
-  pub held_for : (adm : Admission) (t : ℕ) → IsOf adm s.flow → IsHeldFor adm store.catalog (current a) t (captured_in store t) s
-  held_for adm t is = record {
+  pub held_for : (adm : Admission) (t : ℕ) → t < length s.flow.tasks → IsOf adm s.flow → IsHeldFor adm store.catalog (current a) t (captured_in store t) s
+  held_for adm t lt is = record {
     flow = is;
     planned = (own s.flow stands.by.agrees.read).planned;
     reached = stands.reached;
@@ -56,4 +56,5 @@ module _ (store : Held) (commits : List Commit) (s : State) (a : List Event) (st
     newest = version_is (output_in s.flow t);
     inputs = subst (λ (w : Workflow). All (IsHeld store.catalog (current a) s) (run_reads (edges_of (task_in w t)) store.catalog t (map (newest_in store.catalog) (task_in store.flow t).inputs))) stands.flow
         (held _ 0 (task_in store.flow t).inputs);
+    state = λ grouping st is. one_state store.journal.generation commits store.catalog (current a) s stands.reached stands.by t lt grouping st is;
   }

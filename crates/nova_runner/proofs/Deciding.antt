@@ -49,6 +49,7 @@ rebuilt x commits cat old new s same log by = record {
   stored = λ p named.
       let here = same (block_file p.block) (inr (inr (p, named, refl))) (not_journal x p.block) in
       elim (by.stored p named) as (λ _. IsStored new s p ⊎ IsLost s.flow new p) [ inl is ↦ inl (stored_same old new s p here is) | inr lost ↦ inr (lost_same s.flow old new p here lost) ];
+  empty = by.empty;
   paths = by.paths;
 }
 
@@ -84,13 +85,14 @@ commits_lead x commits own cat old new s t fresh by leads same named log = recor
     catalog = subst (λ (f : Workflow). IsCatalogOf (wiring_of f) (commits ++ own ∷ []) (applied cat own)) (sym leads.flow) (catalog_more (wiring_of s.flow) commits own cat by.agrees.catalog leads.fits leads.allowed);
     same = leads.like;
   };
-  stored = λ p is. elim (named p is) as (λ _. IsStored new (ended t) p ⊎ IsLost t.flow new p) [ inl old_one ↦ still p old_one (by.stored p old_one) | inr new_one ↦ inl new_one ];
+  stored = λ p is. elim (named p is) as (λ _. IsStored new (ended t) p ⊎ IsLost t.flow new p) [ inl old_one ↦ still p old_one is (by.stored p old_one) | inr new_one ↦ inl new_one ];
+  empty = leads.empty;
   paths = leads.paths;
 }
   where
-    still : (p : Piece) → IsNamed cat p → IsStored old (ended s) p ⊎ IsLost s.flow old p → IsStored new (ended t) p ⊎ IsLost t.flow new p
-    still p named (inl is) = inl (record {
-      file = same (block_file p.block) (inr (inr (p, named, refl))) (not_journal x p.block) ∙ is.file ∙ ap (λ (bs : List ℕ). Some bs) (sym (leads.stay p named));
-      long = is.long ∙ ap length (sym (leads.stay p named));
+    still : (p : Piece) → IsNamed cat p → IsNamed (applied cat own) p → IsStored old (ended s) p ⊎ IsLost s.flow old p → IsStored new (ended t) p ⊎ IsLost t.flow new p
+    still p named later (inl is) = inl (record {
+      file = same (block_file p.block) (inr (inr (p, named, refl))) (not_journal x p.block) ∙ is.file ∙ ap (λ (bs : List ℕ). Some bs) (sym (leads.stay p named later));
+      long = is.long ∙ ap length (sym (leads.stay p named later));
     })
-    still p named (inr lost) = inr (subst (λ (f : Workflow). IsLost f new p) (sym leads.flow) (lost_same s.flow old new p (same (block_file p.block) (inr (inr (p, named, refl))) (not_journal x p.block)) lost))
+    still p named later (inr lost) = inr (subst (λ (f : Workflow). IsLost f new p) (sym leads.flow) (lost_same s.flow old new p (same (block_file p.block) (inr (inr (p, named, refl))) (not_journal x p.block)) lost))

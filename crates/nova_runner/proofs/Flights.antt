@@ -17,6 +17,7 @@ use Rattle.nova_runner.specs.Committing.{IsFresh}
 use Rattle.nova_runner.specs.Flights.{HoldFlights, flights_of, idle_slots}
 use Rattle.nova_runner.specs.Stands.{Told, drawn_kept, sketch, told_done}
 use Rattle.nova_runner.specs.declared.ready.Fresh.{Fresh}
+use Rattle.nova_runner.proofs.StateParts.{part_ended}
 
 -- ---- what files have of a state doesn't tell what is in flight
 
@@ -30,7 +31,7 @@ sketch_ended s = λ i. record { channels = map drawn_kept s.channels; tasks = to
 
 pub bytes_ended : (s : State) (w : Content) → bytes_of (ended s) w ≡ bytes_of s w
 bytes_ended s (Channel c i j) = refl
-bytes_ended s (StatePart t part) = refl
+bytes_ended s (StatePart t part) = part_ended s t part
 
 pub fresh_ended : (s : State) (fresh : List Fresh) (p : Piece) → IsFresh s fresh p → IsFresh (ended s) fresh p
 fresh_ended s fresh p is = (is.0, is.1, is.2, is.3 ∙ sym (bytes_ended s p.content), is.4)

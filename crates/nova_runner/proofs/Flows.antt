@@ -13,9 +13,6 @@ use Rattle.std.proofs.Math.ListN.{get_or-map}
 use Rattle.nova_value.specs.Rows.{IsShape}
 use Rattle.nova_workflow.specs.declared.flow.Channel.{Channel}
 use Rattle.nova_workflow.specs.declared.flow.Flow.{Flow}
-use Rattle.nova_workflow.specs.declared.flow.Input.{Input}
-use Rattle.nova_workflow.specs.declared.flow.Mode.{Mode}
-use Rattle.nova_workflow.specs.declared.flow.Mode.TheVariants as mode
 use Rattle.nova_workflow.specs.declared.flow.Task.{Task}
 use Rattle.nova_workflow.specs.declared.flow.Trigger.{Trigger}
 use Rattle.nova_workflow.specs.declared.flow.Trigger.TheVariants.{OnData, Every, After}
@@ -23,11 +20,9 @@ use Rattle.nova_workflow.specs.Whole.{IsChannel, IsFlow, IsInTime, IsTask}
 use Rattle.nova_workflow.specs.Writers.{writer_of, writes, is_based as based_by}
 use Rattle.nova_flow.proofs.Places.{none_any}
 use Rattle.nova_flow.proofs.WholeFlows.{flows_are_whole}
-use Rattle.nova_pig_algebra.specs.Plan.{IsPlan, Plan}
-use Rattle.nova_pig_pattern.specs.OutputKey.{HasOutputKey}
-use Rattle.nova_pig_pattern.specs.Table.{AreAll, NoneBased}
-use Rattle.nova_admit.specs.Flows.{HasPattern, HavePatterns, channel_at, input_of, is_new as seen_new}
-use Rattle.nova_admit.specs.TaskPlans.{plan_of}
+use Rattle.nova_pig_pattern.specs.declared.task.PatternKind.{PatternKind}
+use Rattle.nova_pig_pattern.specs.declared.task.PatternKind.TheVariants.{NonIncremental, Stateless, Lookup, Stateful}
+use Rattle.nova_admit.specs.Flows.{HavePatterns}
 use Rattle.nova_admit.specs.declared.plans.Pattern.{Pattern}
 use Rattle.nova_histories.specs.Planned.{IsPlannedFlow}
 use Rattle.nova_histories.proofs.Admitted.{admitted_are_planned}
@@ -41,13 +36,10 @@ use Rattle.nova_meta.specs.declared.wiring.Edge.{Edge}
 use Rattle.nova_meta.specs.declared.wiring.Wire.{Wire}
 use Rattle.nova_meta.specs.Wired as catalog
 use Rattle.nova_meta.specs.Wired.{IsWire, IsWiring, no_edge, no_wire}
-use Rattle.nova_machine.specs.Workflow.{TaskPlan, Workflow, channel_in, input_in, is_based, is_input, is_new, no_channel, no_input, no_plan, no_task, output_in, plan_in, schema_in, task_in}
-use Rattle.nova_machine.specs.RunLaws.{IsOwned}
-use Rattle.nova_machine.specs.Sound.{IsWired}
-use Rattle.nova_runner.specs.Flights.{flow_of}
+use Rattle.nova_machine.specs.Workflow.{TaskPlan, Workflow, channel_in, is_based, is_input, no_channel, no_input, no_plan, no_task, output_in, plan_in, schema_in, task_in}
 use Rattle.nova_runner.specs.Opening.{IsFirstFlow, IsFlowIn, IsNone, IsSaid}
 use Rattle.nova_runner.specs.Texts.{ArePlans, HasFlow, task_plan, workflow_of}
-use Rattle.nova_runner.specs.Workflow.{FlowsAreAdmitted, IsAdmitted, edge_of, named_by, wire_of, wires_of, wiring_of}
+use Rattle.nova_runner.specs.Workflow.{FlowsAreAdmitted, IsAdmitted, edge_of, keeps_state, named_by, wire_of, wires_of, wiring_of}
 use Rattle.nova_runner.proofs.Texts.{short_text, of_text, text_kept}
 
 -- ---- places
@@ -80,6 +72,19 @@ wires_at [] ps t long lt = absurd (omega (arith, lt))
 wires_at (u ∷ ts) [] t long lt = absurd (omega (arith, long))
 wires_at (u ∷ ts) (p ∷ ps) zero long lt = refl
 wires_at (u ∷ ts) (p ∷ ps) (suc t) long lt = wires_at ts ps t (omega (arith, long)) (omega (arith, lt))
+
+-- only tasks have wires that keep state, and those are grouping ones
+wires_within : (ts : List Task) (ps : List TaskPlan) (t : ℕ) → length ps ≡ length ts → (slice_index_or (wires_of ts ps) t no_wire).stateful ≡ true → t < length ts
+wires_within [] ps t long keeps = absurd cc
+wires_within (u ∷ ts) [] t long keeps = absurd (omega (arith, long))
+wires_within (u ∷ ts) (p ∷ ps) zero long keeps = omega arith
+wires_within (u ∷ ts) (p ∷ ps) (suc t) long keeps = omega (arith, wires_within ts ps t (omega (arith, long)) keeps)
+
+is_stateful : (k : PatternKind) → keeps_state k ≡ true → k ≡ Stateful
+is_stateful NonIncremental e = absurd cc
+is_stateful Stateless e = absurd cc
+is_stateful Lookup e = absurd cc
+is_stateful Stateful e = refl
 
 same_number : (m n : ℕ) → nat_eq m n ≡ true → m ≡ n
 same_number m n e = grind (arith, nat_tests)
@@ -296,6 +301,13 @@ module _ (f : Workflow) (read : HasFlow f.text f) where
 
   pub output_known : (t : ℕ) → t < length f.tasks → (catalog.wire_at (wiring_of f) t).output ≡ output_in f t
   output_known t lt = ap (λ (x : Wire). x.output) (wire_known t lt)
+
+  -- the wire of a task that keeps state is that of a grouping one
+  pub of_stateful : (t : ℕ) → (catalog.wire_at (wiring_of f) t).stateful ≡ true → (t < length f.tasks) × ((plan_in f t).pattern ≡ Stateful)
+  unfolding wiring_of
+  of_stateful t keeps =
+      let lt = wires_within f.tasks f.plans t own.counted keeps in
+      (lt, is_stateful (plan_in f t).pattern (ap (λ (x : Wire). x.stateful) (sym (wires_at f.tasks f.plans t own.counted lt)) ∙ keeps))
 
   pub free : (c : ℕ) → is_input f c ≡ true → is_based f c ≡ false
   free c input = sym (own.based c) ∙ free_known c input

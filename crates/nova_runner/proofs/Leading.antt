@@ -22,6 +22,7 @@ use Rattle.nova_machine.proofs.Counted.{channels_are_kept}
 use Rattle.nova_machine.proofs.Ended.{ended_reachable}
 use Rattle.nova_machine.proofs.Growth.{at_set}
 use Rattle.nova_machine.proofs.Reached.{hops_have_paths, reachable_more}
+use Rattle.nova_histories.specs.Planned.{IsPlannedFlow}
 use Rattle.nova_runner.specs.Acts.{load_block, load_commit}
 use Rattle.nova_runner.specs.Committing.{IsFresh, Leads}
 use Rattle.nova_runner.specs.Files.{IsNamed, bytes_of}
@@ -32,6 +33,8 @@ use Rattle.nova_runner.specs.declared.ready.Fresh.{Fresh}
 use Rattle.nova_runner.proofs.Flights.{bytes_ended, fresh_ended, sketch_ended}
 use Rattle.nova_runner.proofs.Flows.{free as loose, free_known, own, well_wired}
 use Rattle.nova_runner.proofs.Loading.{drawings, drawn_at, like_added, load_bytes, loaded}
+use Rattle.nova_runner.proofs.StateParts.{kept_ended, kept_stays, part_stays}
+use Rattle.nova_groups.specs.Parts.{part, part_of}
 use Rattle.nova_runner.proofs.Stored.{fine}
 use Rattle.nova_meta.proofs.Sound.{catalogs_are_sound}
 
@@ -72,6 +75,7 @@ module _ (cat : Entered) (c size : ℕ) where
 module _ (cat : Entered) (s : State) (c : ℕ) (entries : List Entry) (delta : DeltaValue) (fresh : Fresh)
     (low : (d : ℕ) (x : Span) → IsOneOf (kept_at s d).shelf x → x.to ≤ newest s d) (free : is_based cat.wiring c ≡ false) (input : flow_input s.flow c ≡ true) (same : drawn cat ≡ sketch s) (below : c < length s.channels)
     (is : delta ≡ record { schema = schema_in s.flow c; entries = load_delta (schema_in s.flow c) entries })
+    (planned : IsPlannedFlow s.flow) (reached : IsReachable s)
     (number : fresh.block ≡ cat.next) (bytes : fresh.bytes.items ≡ spelling_of (load_block cat c delta)) where
   abbrev pub made : Version
   made = loaded_version s c entries
@@ -80,7 +84,7 @@ module _ (cat : Entered) (s : State) (c : ℕ) (entries : List Entry) (delta : D
   next = add_version s c made
 
   stay_content : (w : Content) (b z : ℕ) → Names cat w b z → bytes_of next w ≡ bytes_of s w
-  stay_content (StatePart u part) b z named = refl
+  stay_content (StatePart u part) b z named = part_stays s planned reached u part c made
   stay_content (Channel d i j) b z named =
       let here : IsOneOf (kept_at s d).shelf (record { from = i; to = j }) = subst (λ (x : Drawn). IsOneOf x.shelf (record { from = i; to = j })) (drawn_at cat s (drawings cat s same) d) (one_span (shelf_at cat d).intervals (interval_of i j b z) named) in
       ap (λ (m : EntryMap). spelling_of (record { schema = schema_in s.flow d; entries = m }))
@@ -107,6 +111,7 @@ pub loads_lead : LoadsLead
 loads_lead x commits cat files s c entries delta fresh reached wired by is_made is number bytes fits allowed =
     let input = is_made.1 in
     let taken = loaded s c entries input in
+    let planned = (own s.flow by.agrees.read).planned in
     let free : is_based cat.wiring c ≡ false = ap (λ (w : Wiring). is_based w c) wired ∙ free_known s.flow by.agrees.read c input in
     let shelved = (catalogs_are_sound (wiring_of s.flow) commits cat (well_wired s.flow by.agrees.read) by.agrees.catalog.is).shelved c in
     let below : c < length s.channels = let n = channels_are_kept s reached in let m = is_made.0 in omega (arith, n, m) in
@@ -123,10 +128,11 @@ loads_lead x commits cat files s c entries delta fresh reached wired by is_made 
       reached = reached_then;
       flights = refl;
       like = like_added cat (ended s) c cat.next (length (spelling_of (load_block cat c delta))) v free (loose s.flow by.agrees.read c input) shelved.low begins;
-      stay = λ p named. bytes_ended t p.content ∙ stay_content cat s c entries delta fresh low free input here below is number bytes p.content p.block p.size named ∙ sym (bytes_ended s p.content);
-      named = λ p named. elim (named_content cat s c entries delta fresh low free input here below is number bytes p.content p.block p.size named) as (λ _. IsNamed cat p ⊎ IsFresh (ended t) (fresh ∷ []) p) [
+      stay = λ p named later. bytes_ended t p.content ∙ stay_content cat s c entries delta fresh low free input here below is planned reached number bytes p.content p.block p.size named ∙ sym (bytes_ended s p.content);
+      named = λ p named. elim (named_content cat s c entries delta fresh low free input here below is planned reached number bytes p.content p.block p.size named) as (λ _. IsNamed cat p ⊎ IsFresh (ended t) (fresh ∷ []) p) [
         | inl old ↦ inl old
         | inr new ↦ inr (fresh_ended t (fresh ∷ []) p new)
       ];
+      empty = λ u number grouping none. ap (part_of part number) (kept_ended t u ∙ kept_stays s planned reached u c v ∙ sym (kept_ended s u)) ∙ by.empty u number grouping none;
       paths = λ d h one. let led = hops_have_paths (ended t) (own s.flow by.agrees.read).news (ended_reachable t reached_then) d h one in (led.0, led.2);
     })

@@ -1,6 +1,7 @@
 pub mod Texts
 pub mod Planned
 pub mod Flows
+pub mod StateParts
 pub mod Flights
 pub mod Deciding
 pub mod Putting

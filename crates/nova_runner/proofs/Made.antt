@@ -1,5 +1,6 @@
 -- A store that is made.
 use Rattle.std.proofs.Common.{◌≡◌, inl, inr, ℕ, zero, suc, ◌+◌, ◌*◌, ◌<◌, ◌^◌, List, [], ◌∷◌, length, map, Option, Some, None, refl, ap, sym, ◌∙◌, subst, arith}
+use Rattle.std.specs.FinMap as fin
 use Rattle.std.specs.Prelude.{replicate, slice_index_or}
 use Rattle.nova_outside.specs.Disk.{Files, LeavesSameBut, Only, SameBut}
 use Rattle.nova_outside.specs.History.{Event, Outcome, current, replies}
@@ -17,12 +18,20 @@ use Rattle.nova_meta.specs.Catalog.{Entered, Shelved, applied, blank, no_run, no
 use Rattle.nova_meta.specs.Named.{Channel as Interval, Content, IsCatalogOf, Names, State as StatePart}
 use Rattle.nova_workflow.specs.declared.flow.Channel.{Channel}
 use Rattle.nova_workflow.specs.declared.flow.Task.{Task}
-use Rattle.nova_machine.specs.Workflow.{TaskPlan, Workflow}
-use Rattle.nova_machine.specs.State.{Done, ended, landed, nothing_done, nothing_kept, start}
+use Rattle.nova_machine.specs.Workflow.{TaskPlan, Workflow, main_place, plan_in, task_in}
+use Rattle.nova_machine.specs.Due.{cursor}
+use Rattle.nova_machine.specs.Versions.{Version, rows_in}
+use Rattle.nova_rowwise.specs.Runs.{main_channel}
+use Rattle.nova_groups.specs.Parts.{part, part_of}
+use Rattle.nova_state.specs.Advance.{state_of}
+use Rattle.nova_state.proofs.StatesFit.{no_rows_no_state}
+use Rattle.nova_delta.specs.Merge.{RowMap}
+use Rattle.nova_execution.specs.Groups.{no_state}
+use Rattle.nova_machine.specs.State.{Done, Kept, ended, kept_at, landed, nothing_done, nothing_kept, start}
 use Rattle.nova_machine.specs.Reachable.{IsReachable}
 use Rattle.nova_machine.proofs.Ended.{ended_reachable}
 use Rattle.nova_machine.proofs.Reached.{hops_have_paths}
-use Rattle.nova_runner.specs.Files.{IsSettled, journal_file, mark_file}
+use Rattle.nova_runner.specs.Files.{IsSettled, journal_file, kept_state, mark_file}
 use Rattle.nova_runner.specs.Flights.{HoldFlights, idle_slots}
 use Rattle.nova_runner.specs.Held.{Held}
 use Rattle.nova_runner.specs.Making.{HasFirst, HasNoneOrFirst, InitCause, IsMadeOrNot, Made, NoLaterMarks, NotBlank, OnlyMade, Unmade}
@@ -36,6 +45,7 @@ use Rattle.nova_runner.proofs.Flights.{idle_count, idle_hold}
 use Rattle.nova_runner.proofs.Flows.{flows_are_admitted, tasks_known}
 use Rattle.nova_runner.proofs.Texts.{of_text}
 use Rattle.nova_runner.proofs.Readables.{readable}
+use Rattle.nova_runner.proofs.StateParts.{nothing_apart}
 
 -- ---- the catalog of a workflow's commit alone draws the machine before its first step
 
@@ -93,6 +103,29 @@ names_none w text (StatePart t part) block size named =
     let none : slice_index_or no_run.parts part None ≡ None = no_part 16 part in
     none_is_some (record { block = block; size = size }) (sym none ∙ some)
 
+-- ---- no state has contributions
+
+no_versions : (cs : List Channel) (c : ℕ) → slice_index_or (map (λ _. nothing_kept) cs) c nothing_kept ≡ nothing_kept
+no_versions [] c = refl
+no_versions (x ∷ cs) zero = refl
+no_versions (x ∷ cs) (suc c) = no_versions cs c
+
+none_before : (versions : List Version) → versions ≡ [] → (n : ℕ) → rows_in versions n ≡ fin.empty
+none_before versions is n = ap (λ (vs : List Version). rows_in vs n) is ∙ nothing n
+  where
+    nothing : (n : ℕ) → rows_in [] n ≡ fin.empty
+    nothing zero = refl
+    nothing (suc n) = refl
+
+pub empty_start : (w : Workflow) (t number : ℕ) → part_of part number (kept_state (ended (start w)) t) ≡ no_state
+empty_start w t number =
+    let u = ended (start w) in
+    let k = main_place (task_in w t).inputs in
+    let rows : rows_in (kept_at u (main_channel u t)).versions (cursor u t k) ≡ fin.empty =
+    none_before (kept_at u (main_channel u t)).versions (ap (λ (x : Kept). x.versions) (no_versions w.channels (main_channel u t))) (cursor u t k) in
+    ap (λ (m : RowMap). part_of part number (state_of (plan_in w t).plan m)) rows
+    ∙ ap (part_of part number) (no_rows_no_state (plan_in w t).plan) ∙ nothing_apart number
+
 -- ---- its frame is short
 
 first_length : (text : List ℕ) → length (frame (commit_bytes (commit.Flow text))) ≡ length text + 10
@@ -134,6 +167,7 @@ module _ (text : List ℕ) (w : Workflow) (read : HasFlow text w) where
       log = log;
       agrees = agrees;
       stored = λ p named. absurd (names_none w text p.content p.block p.size named);
+      empty = λ t number grouping none. empty_start w t number;
       paths = λ c h one. let led = hops_have_paths (ended (start w)) admitted.news (ended_reachable (start w) (start_reachable w)) c h one in (led.0, led.2);
     };
     stored = λ p named. absurd (names_none w text p.content p.block p.size named);

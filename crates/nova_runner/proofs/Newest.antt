@@ -1,5 +1,5 @@
 -- What a store reads of a channel is the state's.
-use Rattle.std.proofs.Common.{◌≡◌, ◌⊎◌, inl, inr, ℕ, Bool, List, [], ◌∷◌, length, Result, Ok, Err, refl, ap, sym, ◌∙◌, subst, arith}
+use Rattle.std.proofs.Common.{◌≡◌, inl, inr, ℕ, Bool, true, false, List, [], ◌∷◌, length, None, Result, Ok, Err, refl, ap, sym, ◌∙◌, subst, arith, if◌then◌else◌}
 use Rattle.nova_value.specs.Rows.{Shape}
 use Rattle.nova_outside.specs.History.{Event, current}
 use Rattle.nova_delta.specs.Merge.{TableValue}
@@ -13,11 +13,15 @@ use Rattle.nova_workflow.specs.declared.flow.Channel.{Channel}
 use Rattle.nova_execution.specs.Reads.{IsDamaged, IsReadDamage, Read}
 use Rattle.nova_meta.specs.Catalog.{Entered, shelf_at}
 use Rattle.nova_commit.specs.declared.commit.Commit.{Commit}
-use Rattle.nova_machine.specs.Workflow.{Workflow, schema_in}
+use Rattle.nova_machine.specs.Workflow.{Workflow, plan_in, schema_in}
 use Rattle.nova_machine.specs.Versions.{rows_in}
-use Rattle.nova_machine.specs.State.{State, kept_at, newest, newest_table}
+use Rattle.nova_machine.specs.State.{State, ended, kept_at, newest, newest_table}
 use Rattle.nova_machine.specs.Steps.{Step, Load, Tick, Run, Begin, Finish, Drop, Worked, Compact, Chain, Collect, Show, Blocks, Refused}
-use Rattle.nova_runner.proofs.Stored.{drawing, gives, holds}
+use Rattle.nova_runner.proofs.Stored.{drawing, gives, holds, state_holds}
+use Rattle.nova_machine.specs.Reachable.{IsReachable}
+use Rattle.nova_state.specs.Sorts.{plan_sorts}
+use Rattle.nova_execution.specs.Groups.{IsStateDamage, keeps_state, part_file}
+use Rattle.nova_runner.specs.Stands.{StandsBy}
 use Rattle.nova_runner.specs.Held.{Held}
 use Rattle.std.specs.Bool.{IsTrue}
 use Rattle.std.specs.Result.{IfOk, IfErr, IsErr}
@@ -34,13 +38,19 @@ none_bad channels cat files each [] file at bad = bad
 none_bad channels cat files each (r ∷ rs) file at (inl bad) = each r file at bad
 none_bad channels cat files each (r ∷ rs) file at (inr more) = none_bad channels cat files each rs file at more.1
 
+no_state_damage : (x : ℕ) (commits : List Commit) (cat : Entered) (files : Files) (s : State) (t : ℕ) → IsReachable s → StandsBy x commits cat files (ended s) → (b : Bool) (file at : ℕ)
+    → IsStateDamage (plan_sorts (plan_in s.flow t).plan) (if b then part_file cat t else None) files file at → ⊥
+no_state_damage x commits cat files s t reached by true file at bad = state_holds x commits cat files s reached by t (part_file cat t) refl file at bad
+no_state_damage x commits cat files s t reached by false file at bad = bad
+
 -- no step tells damage where files stand for a state
 pub no_step_damage : NoStepDamage
 no_step_damage x commits cat files s (Show c) file at reached by made bad =
     blocks_are_not_bad (schema_in s.flow c) files (kept_at s c).versions (shelf_at cat c).intervals 0 (shelf_at cat c).version file at (holds x commits cat files s reached by c) bad
-no_step_damage x commits cat files s (Run t) file at reached by made bad =
+no_step_damage x commits cat files s (Run t) file at reached by made (inl bad) =
     none_bad s.flow.channels cat files (λ r f a. blocks_are_not_bad (schema_in s.flow r.channel) files (kept_at s r.channel).versions (shelf_at cat r.channel).intervals r.from r.to f a (holds x commits cat files s reached by r.channel))
     (newest_reads cat t) file at bad
+no_step_damage x commits cat files s (Run t) file at reached by made (inr bad) = no_state_damage x commits cat files s t reached by (keeps_state (plan_in s.flow t).pattern) file at bad.1
 no_step_damage x commits cat files s (Load c entries) file at reached by made bad = bad
 no_step_damage x commits cat files s (Tick m) file at reached by made bad = bad
 no_step_damage x commits cat files s (Begin t) file at reached by made bad = bad

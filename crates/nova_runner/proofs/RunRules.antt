@@ -1,53 +1,49 @@
 -- What a store asks of a run's commit.
-use Rattle.std.proofs.Common.{◌≡◌, ◌≢◌, inl, inr, ℕ, zero, suc, ◌+◌, ◌<◌, ◌≤◌, ◌^◌, ◌==◌, Bool, true, false, not, ◌&&◌, ◌||◌, List, [], ◌∷◌, ◌++◌, length, map, Option, Some, None, refl, ap, sym, ◌∙◌, subst, arith, sum_by, if◌then◌else◌}
+use Rattle.std.proofs.Common.{◌≡◌, ◌≢◌, inl, inr, ℕ, suc, ◌+◌, ◌<◌, ◌≤◌, ◌^◌, ◌==◌, Bool, true, false, not, ◌&&◌, ◌||◌, List, [], ◌∷◌, length, map, Option, Some, None, refl, ap, sym, ◌∙◌, subst, arith, sum_by, if◌then◌else◌}
 use Rattle.std.specs.Prelude.{is_some, nat_lt, nat_le, slice_index_or}
-use Rattle.std.specs.List.{AllByRecursion}
 use Rattle.std.proofs.lemmas.Bool.Decides.{nat_tests}
-use Rattle.std.proofs.lemmas.List.{length-set}
 use Rattle.nova_path.specs.Lists.{IsOneOf}
 use Rattle.nova_path.specs.Shelf.{chosen_path}
 use Rattle.nova_path.specs.Intervals.{size_of, spans, weight_in}
 use Rattle.nova_path.specs.declared.interval.Interval.{Interval}
 use Rattle.nova_path.proofs.Room.{rises_from}
 use Rattle.nova_path.proofs.Weights.{none_is_no_path}
-use Rattle.nova_workflow.specs.declared.flow.Flow.{Flow}
 use Rattle.nova_workflow.specs.declared.flow.Input.{Input}
 use Rattle.nova_workflow.specs.declared.flow.Task.{Task}
 use Rattle.nova_workflow.specs.declared.flow.Trigger.{Trigger}
 use Rattle.nova_workflow.specs.declared.flow.Trigger.TheVariants.{OnData, Every, After}
-use Rattle.nova_pig_pattern.specs.Table.{AreAll}
-use Rattle.nova_admit.specs.Flows.{input_of}
 use Rattle.nova_channel.specs.Reading.{AreNumbered}
-use Rattle.nova_commit.specs.declared.commit.Commit.{Commit}
-use Rattle.nova_commit.specs.declared.commit.Commit.TheVariants as commit
+use Rattle.nova_commit.specs.declared.commit.PartFile.{PartFile}
+use Rattle.nova_delta.specs.Merge.{DeltaValue}
+use Rattle.nova_row_codec.specs.Spelling.{spelling_of}
+use Rattle.nova_groups.specs.State.{StateValue}
+use Rattle.nova_group_codec.specs.Spelling.{state_bytes}
 use Rattle.nova_meta.specs.declared.captured.Captured.{Captured}
 use Rattle.nova_meta.specs.declared.progress.Progress.{Progress}
-use Rattle.nova_meta.specs.declared.wiring.Edge.{Edge}
-use Rattle.nova_meta.specs.declared.wiring.Wiring.{Wiring}
-use Rattle.nova_meta.specs.Catalog.{Entered, Shelved, allows, applied, bound, captured, interval_of, is_task, is_timely, last_moment, leads, may_count, may_have_parts, may_parts, may_rise, may_see_all, next_progress, next_shelf, no_run, nothing_shelved, placed, progress_at, shelf_at, total}
+use Rattle.nova_meta.specs.Catalog.{Entered, Shelved, allows, applied, bound, captured, interval_of, is_task, is_timely, last_moment, leads, may_count, may_have_parts, may_parts, may_rise, may_see_all, next_progress, next_shelf, no_run, nothing_shelved, progress_at, shelf_at, total}
 use Rattle.nova_meta.specs.Named.{Channel, Content, Names, State as StatePart}
 use Rattle.nova_meta.specs.Shelves.{IsShelved}
 use Rattle.nova_meta.specs.Wired.{is_based, wire_at}
 use Rattle.nova_meta.proofs.Allowed.{and_both}
+use Rattle.nova_meta.proofs.Numbered.{parts_either}
 use Rattle.nova_meta.proofs.Sound.{sound_step}
-use Rattle.nova_meta.proofs.Shelved.{next_kept, placed_all}
+use Rattle.nova_meta.proofs.Shelved.{placed_all}
 use Rattle.nova_machine.specs.Workflow.{is_new, no_input}
-use Rattle.nova_machine.specs.State.{Capture, with_span}
+use Rattle.nova_machine.specs.State.{Capture}
 use Rattle.nova_machine.proofs.Growth.{at_set}
-use Rattle.nova_machine.proofs.Shelves.{shelved, shelve_more}
+use Rattle.nova_machine.proofs.Shelves.{shelved}
 use Rattle.nova_trigger.specs.Due.{capture_in, captured_of, newest_in, runs_named}
 use Rattle.nova_execution.specs.Reads.{edge_of}
-use Rattle.nova_execution.proofs.Reading.{same_new}
-use Rattle.nova_runner.specs.Acts.{has_room, own_run}
+use Rattle.nova_runner.specs.Acts.{has_room, own_run, parts_of}
 use Rattle.nova_runner.specs.Committing.{AreSpare}
 use Rattle.nova_runner.specs.Files.{IsNamed, Piece}
 use Rattle.nova_runner.specs.Readable.{IsReadable}
+use Rattle.nova_runner.specs.RunFiles.{AreRunFiles, IsFile}
 use Rattle.nova_runner.specs.Workflow.{named_by}
 use Rattle.nova_runner.specs.declared.ready.Fresh.{Fresh}
 use Rattle.nova_runner.proofs.Leading.{which}
-use Rattle.nova_runner.proofs.Loading.{spans_placed}
 
-equal_itself : (n : ℕ) → (n == n) ≡ true
+pub equal_itself : (n : ℕ) → (n == n) ≡ true
 equal_itself n = grind (arith, nat_tests)
 
 low_itself : (n : ℕ) → nat_le n n ≡ true
@@ -117,13 +113,20 @@ only_room true true true true false p y a v r n q1 q2 q3 q4 q5 q6 q7 = cc
 only_room true true true true true false y a v r n q1 q2 q3 q4 q5 q6 q7 = cc
 only_room true true true true true true false a v r n q1 q2 q3 q4 q5 q6 q7 = cc
 
-no_parts : (stateful : Bool) → may_have_parts stateful [] ≡ true
-no_parts true = refl
-no_parts false = refl
+-- parts come only where the task keeps state
+parts_come : (keeps stateful : Bool) (n z : ℕ) → (keeps ≡ true → stateful ≡ true) → may_have_parts stateful (parts_of keeps n z) ≡ true
+parts_come keeps true n z is = refl
+parts_come false false n z is = refl
+parts_come true false n z is = is refl
 
--- what the store knows of a task: its wire, and that no cursor is above the newest version
-pub record IsRunTask (cat : Entered) (task : Task) (t : ℕ) : Type 0 where
+parts_numbered : (keeps : Bool) (n z : ℕ) → may_parts 0 (n + 1) (parts_of keeps n z) ≡ true
+parts_numbered false n z = refl
+parts_numbered true n z = ap (λ (b : Bool). b && true) (equal_itself (n + 1))
+
+-- what the store knows of a task: its wire, whether it keeps state, and that no cursor is above the newest version
+pub record IsRunTask (cat : Entered) (task : Task) (t : ℕ) (keeps : Bool) : Type 0 where
   pub begun : cat.begun ≡ true
+  pub stateful : keeps ≡ true → (wire_at cat.wiring t).stateful ≡ true
   pub there : t < length cat.tasks
   pub inputs : (wire_at cat.wiring t).inputs ≡ map edge_of task.inputs
   pub after : (wire_at cat.wiring t).after ≡ named_by task.trigger
@@ -131,41 +134,52 @@ pub record IsRunTask (cat : Entered) (task : Task) (t : ℕ) : Type 0 where
   pub behind : (k : ℕ) → k < length task.inputs → is_new (slice_index_or task.inputs k no_input).mode ≡ true → captured (progress_at cat t).last k ≤ newest_in cat (slice_index_or task.inputs k no_input)
   pub late : last_moment (progress_at cat t).last ≤ cat.moment
 
-pub run_rules : (cat : Entered) (task : Task) (t size : ℕ) → IsRunTask cat task t → allows cat (own_run cat t (capture_in (captured_of cat task)) size) ≡ has_room cat (own_run cat t (capture_in (captured_of cat task)) size)
-run_rules cat task t size is =
+pub run_rules : (cat : Entered) (task : Task) (t : ℕ) (keeps : Bool) (size state : ℕ) → IsRunTask cat task t keeps
+    → allows cat (own_run cat t (capture_in (captured_of cat task)) keeps size state) ≡ has_room cat (own_run cat t (capture_in (captured_of cat task)) keeps size state)
+run_rules cat task t keeps size state is =
     let c = (wire_at cat.wiring t).output in
-    only_room cat.begun (is_task cat t) (is_timely cat t cat.moment (runs_named cat task.trigger)) (cat.next == cat.next) (may_have_parts (wire_at cat.wiring t).stateful []) (may_parts 0 (cat.next + 1) [])
+    let parts = parts_of keeps cat.next state in
+    only_room cat.begun (is_task cat t) (is_timely cat t cat.moment (runs_named cat task.trigger)) (cat.next == cat.next) (may_have_parts (wire_at cat.wiring t).stateful parts) (may_parts 0 (cat.next + 1) parts)
     (may_see_all cat (progress_at cat t).last 0 (wire_at cat.wiring t).inputs (map (newest_in cat) task.inputs))
-    (nat_le (total (shelf_at cat c) + size) bound) (may_rise (shelf_at cat c).version) (may_rise (progress_at cat t).runs) (may_rise (cat.next + 0))
-    is.begun (let lt = is.there in grind (arith, nat_tests)) (in_time cat t task.trigger (wire_at cat.wiring t).after is.after is.late) (equal_itself cat.next) (no_parts (wire_at cat.wiring t).stateful) refl
+    (nat_le (total (shelf_at cat c) + size) bound) (may_rise (shelf_at cat c).version) (may_rise (progress_at cat t).runs) (may_rise (cat.next + length parts))
+    is.begun (let lt = is.there in grind (arith, nat_tests)) (in_time cat t task.trigger (wire_at cat.wiring t).after is.after is.late) (equal_itself cat.next) (parts_come keeps (wire_at cat.wiring t).stateful cat.next state is.stateful) (parts_numbered keeps cat.next state)
     (ap (λ es. may_see_all cat (progress_at cat t).last 0 es (map (newest_in cat) task.inputs)) is.inputs ∙ sees cat is.shelved (progress_at cat t).last 0 task.inputs behind)
   where
     behind : (j : ℕ) → j < length task.inputs → is_new (slice_index_or task.inputs j no_input).mode ≡ true → captured (progress_at cat t).last (0 + j) ≤ newest_in cat (slice_index_or task.inputs j no_input)
     behind j low new = let same : j ≡ 0 + j = omega arith in subst (λ n. captured (progress_at cat t).last n ≤ newest_in cat (slice_index_or task.inputs j no_input)) same (is.behind j low new)
 
 -- what a catalog names behind a run's commit is below its next number again
-pub below_run : (cat : Entered) (t : ℕ) (run : Capture) (size : ℕ) → ((p : Piece) → IsNamed cat p → p.block < cat.next) → (w : Content) (b z : ℕ) → Names (applied cat (own_run cat t run size)) w b z → b < cat.next + 1
-below_run cat t run size below (StatePart u part) b z named =
-    let old : Names cat (StatePart u part) b z = at_set (λ n (p : Progress). slice_index_or p.parts part None ≡ Some (record { block = b; size = z }) → slice_index_or (progress_at cat n).parts part None ≡ Some (record { block = b; size = z }))
-    cat.tasks t (next_progress (progress_at cat t) run.versions run.moment run.seen []) no_run (λ n is. is) (λ is. is) u named in
-    let lt = below (record { content = StatePart u part; block = b; size = z }) old in omega (arith, lt)
-below_run cat t run size below (Channel d i j) b z named = elim (which cat (wire_at cat.wiring t).output size d (interval_of i j b z) named) as (λ _. b < cat.next + 1) [
+pub below_run : (cat : Entered) (t : ℕ) (run : Capture) (keeps : Bool) (size state : ℕ) → ((p : Piece) → IsNamed cat p → p.block < cat.next) → (w : Content) (b z : ℕ) → Names (applied cat (own_run cat t run keeps size state)) w b z
+    → b < cat.next + 1 + length (parts_of keeps cat.next state)
+below_run cat t run keeps size state below (StatePart u part) b z named =
+    let parts = parts_of keeps cat.next state in
+    at_set (λ n (p : Progress). slice_index_or p.parts part None ≡ Some (record { block = b; size = z }) → b < cat.next + 1 + length parts)
+    cat.tasks t (next_progress (progress_at cat t) run.versions run.moment run.seen parts) no_run
+    (λ n old. let lt = below (record { content = StatePart n part; block = b; size = z }) old in omega (arith, lt))
+    (λ is. elim (parts_either 0 (cat.next + 1) parts (progress_at cat t).parts (parts_numbered keeps cat.next state) part (record { block = b; size = z }) is) as (λ _. b < cat.next + 1 + length parts) [
+      | inl old ↦ let lt = below (record { content = StatePart t part; block = b; size = z }) old in omega (arith, lt)
+      | inr new ↦ let e = new.block_is in let lt = new.within in omega (arith, e, lt)
+    ]) u named
+below_run cat t run keeps size state below (Channel d i j) b z named = elim (which cat (wire_at cat.wiring t).output size d (interval_of i j b z) named) as (λ _. b < cat.next + 1 + length (parts_of keeps cat.next state)) [
   | inl old ↦ let lt = below (record { content = Channel d i j; block = b; size = z }) old in omega (arith, lt)
   | inr new ↦ let e = ap (λ (x : Interval). x.block) new.1 in omega (arith, e)
 ]
 
 -- ---- what room gives
 
-module _ (cat : Entered) (t : ℕ) (run : Capture) (size : ℕ) (room : has_room cat (own_run cat t run size) ≡ true) where
+module _ (cat : Entered) (t : ℕ) (run : Capture) (keeps : Bool) (size state : ℕ) (room : has_room cat (own_run cat t run keeps size state) ≡ true) where
   abbrev out : ℕ
   out = (wire_at cat.wiring t).output
 
-  behind_sum : (nat_lt (shelf_at cat out).version bound && (nat_lt (progress_at cat t).runs bound && nat_lt (cat.next + 0) bound)) ≡ true
+  abbrev parts : List PartFile
+  parts = parts_of keeps cat.next state
+
+  behind_sum : (nat_lt (shelf_at cat out).version bound && (nat_lt (progress_at cat t).runs bound && nat_lt (cat.next + length parts) bound)) ≡ true
   behind_sum = (and_both (nat_le (total (shelf_at cat out) + size) bound) _ room).1
 
-  pub run_low : cat.next < 2 ^ 62
+  pub run_low : cat.next + length parts < 2 ^ 62
   run_low =
-      let is : nat_lt (cat.next + 0) bound ≡ true = (and_both (nat_lt (progress_at cat t).runs bound) _ (and_both (nat_lt (shelf_at cat out).version bound) _ behind_sum).1).1 in
+      let is : nat_lt (cat.next + length parts) bound ≡ true = (and_both (nat_lt (progress_at cat t).runs bound) _ (and_both (nat_lt (shelf_at cat out).version bound) _ behind_sum).1).1 in
       grind (arith, nat_tests)
 
   pub run_rise : (shelf_at cat out).version < 2 ^ 62
@@ -183,30 +197,63 @@ module _ (cat : Entered) (t : ℕ) (run : Capture) (size : ℕ) (room : has_room
       let is : nat_le (total (shelf_at cat out) + size) bound ≡ true = (and_both (nat_le (total (shelf_at cat out) + size) bound) _ room).0 in
       grind (arith, nat_tests)
 
-  pub run_readable : run.moment ≤ cat.moment → allows cat (own_run cat t run size) ≡ true → IsReadable cat → IsReadable (applied cat (own_run cat t run size))
+  pub run_readable : run.moment ≤ cat.moment → allows cat (own_run cat t run keeps size state) ≡ true → IsReadable cat → IsReadable (applied cat (own_run cat t run keeps size state))
   run_readable late allowed is =
-      let low = run_low in
+      let low : cat.next < 2 ^ 62 = let all = run_low in omega (arith, all) in
       let based = is_based cat.wiring out in
       let sh = shelf_at cat out in
       record {
-        below = λ p named. let lt = below_run cat t run size is.below p.content p.block p.size named in omega (arith, lt);
+        below = λ p named. below_run cat t run keeps size state is.below p.content p.block p.size named;
         numbered = at_set (λ n (k : Shelved). AreNumbered k.intervals) cat.channels out (next_shelf based sh cat.next size) nothing_shelved is.numbered
             (placed_all (λ (x : Interval). x.block < 2 ^ 62) (interval_of (if based then 0 else sh.version) (sh.version + 1) cat.next size) sh.intervals low (is.numbered out));
-        sound = sound_step cat.wiring cat (own_run cat t run size) is.sound allowed;
-        timely = at_set (λ n (p : Progress). last_moment p.last ≤ cat.moment) cat.tasks t (next_progress (progress_at cat t) run.versions run.moment run.seen []) no_run is.timely late;
+        sound = sound_step cat.wiring cat (own_run cat t run keeps size state) is.sound allowed;
+        timely = at_set (λ n (p : Progress). last_moment p.last ≤ cat.moment) cat.tasks t (next_progress (progress_at cat t) run.versions run.moment run.seen parts) no_run is.timely late;
       }
 
-  pub run_spare : (fresh : Fresh) → IsReadable cat → fresh.block ≡ cat.next → AreSpare cat (own_run cat t run size) (fresh ∷ [])
-  run_spare fresh is number = record {
-    brings = λ i. number i ∷ [];
-    spare = λ p f named one. elim one as (λ _. f.block ≢ p.block) [
-      | inl e ↦ λ same. let lt = is.below p named in let n = ap (λ (g : Fresh). g.block) e in omega (arith, lt, n, same, number)
+  -- a file with a number from the next one on is none that is named
+  free : IsReadable cat → (p : Piece) (f : Fresh) → IsNamed cat p → cat.next ≤ f.block → f.block ≢ p.block
+  free is p f named high same = let lt = is.below p named in omega (arith, lt, same, high)
+
+-- the files of a run are spare
+module _ (cat : Entered) (t : ℕ) (run : Capture) (size state : ℕ) (d : DeltaValue) (is : IsReadable cat) where
+  spare_one : has_room cat (own_run cat t run false size state) ≡ true → (f : Fresh) (bytes : List ℕ) → IsFile cat.next bytes f → AreSpare cat (own_run cat t run false size state) (f ∷ [])
+  spare_one room f bytes file = record {
+    brings = λ i. file.0 i ∷ [];
+    spare = λ p g named one. elim one as (λ _. g.block ≢ p.block) [
+      | inl e ↦ free cat t run false size state room is p g named (let n = ap (λ (h : Fresh). h.block) e in let own = file.0 in omega (arith, n, own))
       | inr none ↦ absurd none
     ];
-    apart = λ f g one other same. only f one ∙ sym (only g other);
-    low = (let lt = run_low in omega (arith, lt, number), tt);
+    apart = λ g h one other same. only g one ∙ sym (only h other);
+    low = ((let lt = run_low cat t run false size state room in let own = file.0 in omega (arith, lt, own)), tt);
   }
     where
-      only : (f : Fresh) → IsOneOf (fresh ∷ []) f → f ≡ fresh
-      only f (inl e) = sym e
-      only f (inr none) = absurd none
+      only : (g : Fresh) → IsOneOf (f ∷ []) g → g ≡ f
+      only g (inl e) = sym e
+      only g (inr none) = absurd none
+
+  spare_two : has_room cat (own_run cat t run true size state) ≡ true → (f g : Fresh) (bytes more : List ℕ) → IsFile cat.next bytes f → IsFile (cat.next + 1) more g → AreSpare cat (own_run cat t run true size state) (f ∷ g ∷ [])
+  spare_two room f g bytes more file other = record {
+    brings = λ i. file.0 i ∷ other.0 i ∷ [];
+    spare = λ p h named one. elim one as (λ _. h.block ≢ p.block) [
+      | inl e ↦ free cat t run true size state room is p h named (let n = ap (λ (h : Fresh). h.block) e in let own = file.0 in omega (arith, n, own))
+      | inr (inl e) ↦ free cat t run true size state room is p h named (let n = ap (λ (h : Fresh). h.block) e in let own = other.0 in omega (arith, n, own))
+      | inr (inr none) ↦ absurd none
+    ];
+    apart = apart;
+    low = ((let lt = run_low cat t run true size state room in let own = file.0 in omega (arith, lt, own)), ((let lt = run_low cat t run true size state room in let own = other.0 in omega (arith, lt, own)), tt));
+  }
+    where
+      apart : (h j : Fresh) → IsOneOf (f ∷ g ∷ []) h → IsOneOf (f ∷ g ∷ []) j → h.block ≡ j.block → h ≡ j
+      apart h j (inl a) (inl b) same = sym a ∙ b
+      apart h j (inl a) (inr (inl b)) same = let m = ap (λ (x : Fresh). x.block) a in let n = ap (λ (x : Fresh). x.block) b in let one = file.0 in let two = other.0 in absurd (omega (arith, m, n, one, two, same))
+      apart h j (inl a) (inr (inr none)) same = absurd none
+      apart h j (inr (inl a)) (inl b) same = let m = ap (λ (x : Fresh). x.block) a in let n = ap (λ (x : Fresh). x.block) b in let one = file.0 in let two = other.0 in absurd (omega (arith, m, n, one, two, same))
+      apart h j (inr (inl a)) (inr (inl b)) same = sym a ∙ b
+      apart h j (inr (inl a)) (inr (inr none)) same = absurd none
+      apart h j (inr (inr none)) other same = absurd none
+
+  pub run_spare : (keeps : Bool) (o : Option StateValue) → is_some o ≡ keeps → has_room cat (own_run cat t run keeps size state) ≡ true → (fresh : List Fresh) → AreRunFiles cat.next d o fresh → AreSpare cat (own_run cat t run keeps size state) fresh
+  run_spare false None same room fresh (f, are, file) = subst (λ (fs : List Fresh). AreSpare cat (own_run cat t run false size state) fs) (sym are) (spare_one room f (spelling_of d) file)
+  run_spare true (Some st) same room fresh (f, g, are, file, other) = subst (λ (fs : List Fresh). AreSpare cat (own_run cat t run true size state) fs) (sym are) (spare_two room f g (spelling_of d) (state_bytes st) file other)
+  run_spare true None same room fresh are = absurd cc
+  run_spare false (Some st) same room fresh are = absurd cc

@@ -7,7 +7,7 @@ use Rattle.std.proofs.lemmas.List.Elements.{All-cons, All-nil}
 use Rattle.nova_workflow.specs.declared.flow.Input.{Input}
 use Rattle.nova_workflow.specs.declared.flow.Trigger.{Trigger}
 use Rattle.nova_workflow.specs.declared.flow.Trigger.TheVariants.{OnData, Every, After}
-use Rattle.nova_commit.specs.Commits.{Fits, IsWide}
+use Rattle.nova_commit.specs.Commits.{Fits, FitsPart, IsWide}
 use Rattle.nova_meta.specs.Catalog.{Entered, captured, progress_at, shelf_at}
 use Rattle.nova_meta.specs.Sound.{LeadsOn, edge_at}
 use Rattle.nova_meta.specs.Wired.{no_edge, wire_at}
@@ -21,7 +21,7 @@ use Rattle.nova_machine.specs.Workflow.{is_new, no_input, output_in, plan_in, ta
 use Rattle.nova_trigger.specs.Due.{capture_in, newest_in, runs_named}
 use Rattle.nova_execution.specs.Made.{HasTask}
 use Rattle.nova_execution.specs.Reads.{HasRoute, Read, edge_of, edges_of, reads_from, run_reads}
-use Rattle.nova_runner.specs.Acts.{IsHop, has_room, newest_reads}
+use Rattle.nova_runner.specs.Acts.{IsHop, has_room, keeps_in, newest_reads, parts_of}
 use Rattle.nova_runner.specs.Beginning.{captured_in}
 use Rattle.nova_runner.specs.Flights.{flow_of}
 use Rattle.nova_runner.specs.Held.{Held}
@@ -127,9 +127,10 @@ module _ (store : Held) (t : ℕ) (kept : IsKept store) (lt : t < length store.f
       subst (λ (e : Edge). LeadsOn (shelf_at store.catalog e.channel) (captured (progress_at store.catalog t).last k)) known
       (kept.readable.sound.hops.news t k (ap (λ (e : Edge). e.new) known ∙ new))
 
-  pub run_task : IsRunTask store.catalog (task_in store.flow t) t
+  pub run_task : IsRunTask store.catalog (task_in store.flow t) t (keeps_in store.flow t)
   run_task = record {
     begun = kept.begun;
+    stateful = λ keeps. ap (λ (x : Wire). x.stateful) wire ∙ keeps;
     there = let same = kept.tasks in omega (arith, lt, same);
     inputs = ap (λ (x : Wire). x.inputs) wire;
     after = ap (λ (x : Wire). x.after) wire;
@@ -175,10 +176,15 @@ module _ (store : Held) (t : ℕ) (kept : IsKept store) (lt : t < length store.f
   wide_seen (Every period) = omega arith
   wide_seen (After task) = let most = kept.readable.sound.bounded.runs task in omega (arith, most)
 
-  pub run_fits : (size : ℕ) → t < 2 ^ 32 → store.catalog.moment < 2 ^ 64 → has_room store.catalog (run_commit store t size) ≡ true → Fits (run_commit store t size)
-  run_fits size narrow moment room =
+  fit_parts : (keeps : Bool) (next state : ℕ) → next + length (parts_of keeps next state) < 2 ^ 62 → state < 2 ^ 64 → (length (parts_of keeps next state) < 2 ^ 32) × AllByRecursion FitsPart (parts_of keeps next state)
+  fit_parts false next state low wide = (omega arith, tt)
+  fit_parts true next state low wide = (omega arith, (record { part = omega arith; block = omega (arith, low); size = wide }, tt))
+
+  pub run_fits : (size state : ℕ) → t < 2 ^ 32 → store.catalog.moment < 2 ^ 64 → state < 2 ^ 64 → has_room store.catalog (run_commit store t size state) ≡ true → Fits (run_commit store t size state)
+  run_fits size state narrow moment wide room =
       let few = few_inputs store.flow kept.read t lt in
       let many = as_many in
-      let low = run_low store.catalog t (capture_in (captured_in store t)) size room in
-      let fit = run_fit store.catalog t (capture_in (captured_in store t)) size room in
-      (narrow, ((omega (arith, few, many), wide_versions inputs), (moment, (wide_seen (task_in store.flow t).trigger, (omega (arith, low), (omega (arith, fit), (omega arith, tt)))))))
+      let keeps = keeps_in store.flow t in
+      let low = run_low store.catalog t (capture_in (captured_in store t)) keeps size state room in
+      let fit = run_fit store.catalog t (capture_in (captured_in store t)) keeps size state room in
+      (narrow, ((omega (arith, few, many), wide_versions inputs), (moment, (wide_seen (task_in store.flow t).trigger, (omega (arith, low), (omega (arith, fit), fit_parts keeps store.catalog.next state low wide))))))

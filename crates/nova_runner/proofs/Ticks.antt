@@ -108,8 +108,9 @@ ticks_lead x commits cat files s m reached by is_made wide allowed =
       reached = reached_then;
       flights = refl;
       like = like_ticked cat (ended s) m by.agrees.same;
-      stay = λ p named. bytes_same s m p.content;
+      stay = λ p named later. bytes_same s m p.content;
       named = λ p named. inl (named_same cat m p.content p.block p.size named);
+      empty = by.empty;
       paths = λ d h one. let led = hops_have_paths (ended t) (admitted s.flow by.agrees.read).news (ended_reachable t reached_then) d h one in (led.0, led.2);
     })
 

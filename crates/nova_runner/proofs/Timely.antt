@@ -1,14 +1,12 @@
 -- No task's last run is later than the clock.
-use Rattle.std.proofs.Common.{◌≡◌, ℕ, ◌≤◌, Bool, true, false, ◌&&◌, List, [], ◌∷◌, Some, None, refl, ap, sym, ◌∙◌, subst, arith, if◌then◌else◌}
+use Rattle.std.proofs.Common.{◌≡◌, ◌≤◌, Bool, true, false, List, [], ◌∷◌, Some, None, refl, sym, subst, arith, if◌then◌else◌}
 use Rattle.std.specs.Prelude.{nat_le}
 use Rattle.std.proofs.lemmas.Bool.Decides.{nat_tests}
 use Rattle.nova_commit.specs.declared.commit.Commit.{Commit}
 use Rattle.nova_commit.specs.declared.commit.Commit.TheVariants as commit
 use Rattle.nova_meta.specs.declared.progress.Progress.{Progress}
-use Rattle.nova_meta.specs.declared.wiring.Wire.{Wire}
 use Rattle.nova_meta.specs.declared.wiring.Wiring.{Wiring}
-use Rattle.nova_meta.specs.Catalog.{Entered, allows, applied, blank, catalog_of, is_task, is_timely, last_moment, may_count, next_progress, no_run, progress_at, with_commits}
-use Rattle.nova_meta.specs.Wired.{wire_at}
+use Rattle.nova_meta.specs.Catalog.{Entered, allows, applied, blank, catalog_of, is_task, is_timely, last_moment, next_progress, no_run, progress_at, with_commits}
 use Rattle.nova_meta.proofs.Allowed.{and_both}
 use Rattle.nova_machine.proofs.Growth.{at_set}
 use Rattle.nova_machine.proofs.Kept.{same_everywhere}

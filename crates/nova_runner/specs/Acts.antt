@@ -16,17 +16,34 @@ use Rattle.nova_meta.specs.Wired.{wire_at}
 use Rattle.nova_commit.specs.declared.commit.PartFile.{PartFile}
 use Rattle.nova_commit.specs.declared.commit.Commit.{Commit}
 use Rattle.nova_commit.specs.declared.commit.Commit.TheVariants as commit
-use Rattle.nova_machine.specs.Workflow.{Workflow, schema_in}
+use Rattle.nova_group_codec.specs.Spelling.{state_bytes}
+use Rattle.nova_groups.specs.State.{StateValue}
+use Rattle.nova_machine.specs.Workflow.{Workflow, plan_in, schema_in}
 use Rattle.nova_machine.specs.State.{State, Capture, newest}
 use Rattle.nova_machine.specs.Due.{capture_of}
 use Rattle.nova_machine.specs.Steps.{Step, Load, Tick, Run, Begin, Finish, Drop, Worked, Compact, Chain, Collect, Show, Blocks, Refused, after}
 use Rattle.nova_execution.specs.Made.{run_block}
-use Rattle.nova_execution.specs.Reads.{IsReadDamage, Read, reads_size, run_reads}
+use Rattle.nova_execution.specs.Damage.{IsRunDamage}
+use Rattle.nova_execution.specs.Groups.{file_size, keeps_state, part_file, run_state}
+use Rattle.nova_execution.specs.Reads.{Read, reads_size, run_reads}
 use Rattle.nova_runner.specs.Files.{bytes_of, journal_file}
 
--- the commit of a run that captured this, whose block is of this size
-abbrev pub own_run : Entered → ℕ → Capture → ℕ → Commit
-own_run cat t run size = commit.Run t run.versions run.moment run.seen cat.next size []
+-- a run of a task that keeps a state writes it as the first part, in the file behind that of its block
+abbrev pub parts_of : Bool → ℕ → ℕ → List PartFile
+parts_of true next size = record { part = 0; block = next + 1; size = size } ∷ []
+parts_of false next size = []
+
+-- the commit of a run that captured this, whose block and state have these sizes
+abbrev pub own_run : Entered → ℕ → Capture → Bool → ℕ → ℕ → Commit
+own_run cat t run keeps size state = commit.Run t run.versions run.moment run.seen cat.next size (parts_of keeps cat.next state)
+
+-- the bytes of a state that is kept; what isn't kept has none
+abbrev pub kept_spelling : Option StateValue → List ℕ
+kept_spelling None = []
+kept_spelling (Some st) = state_bytes st
+
+abbrev pub keeps_in : Workflow → ℕ → Bool
+keeps_in flow t = keeps_state (plan_in flow t).pattern
 
 -- what a run of a task reads that captures what is newest
 abbrev pub newest_reads : Entered → ℕ → List Read
@@ -41,7 +58,7 @@ abbrev pub own_commit : Entered → State → Step → Option Commit
 own_commit cat s (Load c entries) =
     Some (commit.Load c cat.next (length (bytes_of (after s (Load c entries)) (Channel c (newest s c) (newest s c + 1)))))
 own_commit cat s (Tick m) = Some (commit.Tick m)
-own_commit cat s (Run t) = Some (own_run cat t (capture_of s t) (length (spelling_of (run_block s t (capture_of s t)))))
+own_commit cat s (Run t) = Some (own_run cat t (capture_of s t) (keeps_in s.flow t) (length (spelling_of (run_block s t (capture_of s t)))) (length (kept_spelling (run_state s t (capture_of s t)))))
 own_commit cat s (Begin t) = None
 own_commit cat s (Drop t) = None
 own_commit cat s (Worked k) = None
@@ -61,10 +78,10 @@ load_block cat c d = record { schema = d.schema; entries = if (shelf_at cat c).v
 abbrev pub load_commit : Entered → ℕ → DeltaValue → Commit
 load_commit cat c d = commit.Load c cat.next (length (spelling_of (load_block cat c d)))
 
--- how many bytes of blocks it reads at most; what the commands read that aren't built yet comes with them
+-- how many bytes of blocks and of states it reads at most; what the commands read that aren't built yet comes with them
 abbrev pub read_size : Entered → Step → ℕ
 read_size cat (Show c) = route_size (shelf_at cat c).intervals 0 (shelf_at cat c).version
-read_size cat (Run t) = reads_size cat (newest_reads cat t)
+read_size cat (Run t) = reads_size cat (newest_reads cat t) + file_size (part_file cat t)
 read_size cat (Load c entries) = 0
 read_size cat (Tick m) = 0
 read_size cat (Begin t) = 0
@@ -77,10 +94,10 @@ read_size cat Collect = 0
 read_size cat (Blocks c) = 0
 read_size cat (Refused refusal) = 0
 
--- the file and the place that it finds damaged: those of the first block that it reads which is none; so it is with the commands that aren't built yet
+-- the file and the place that it finds damaged: those of the first block that it reads which is none, or of the state; so it is with the commands that aren't built yet
 abbrev pub IsStepDamage : Workflow → Entered → Files → Step → ℕ → ℕ → Type 0
 IsStepDamage flow cat files (Show c) file at = IsDamage (schema_in flow c) files (shelf_at cat c).intervals 0 (shelf_at cat c).version file at
-IsStepDamage flow cat files (Run t) file at = IsReadDamage flow.channels cat files (newest_reads cat t) file at
+IsStepDamage flow cat files (Run t) file at = IsRunDamage flow.channels (plan_in flow t) cat files t (newest_reads cat t) file at
 IsStepDamage flow cat files (Load c entries) file at = ⊥
 IsStepDamage flow cat files (Tick m) file at = ⊥
 IsStepDamage flow cat files (Begin t) file at = ⊥

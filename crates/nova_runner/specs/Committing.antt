@@ -17,7 +17,7 @@ use Rattle.nova_machine.specs.State.{State, ended, kept_at}
 use Rattle.nova_machine.specs.Needed.{hops}
 use Rattle.nova_machine.specs.Reachable.{IsReachable}
 use Rattle.nova_runner.specs.Acts.{LeavesOthers, brought, load_block, load_commit}
-use Rattle.nova_runner.specs.Files.{Piece, IsNamed, IsSettled, bytes_of}
+use Rattle.nova_runner.specs.Files.{AreEmpty, Piece, IsNamed, IsSettled, bytes_of}
 use Rattle.nova_runner.specs.Flights.{flights_of}
 use Rattle.nova_runner.specs.Held.{Held}
 use Rattle.nova_runner.specs.Opening.{IsRead}
@@ -34,7 +34,7 @@ number_of f = f.block
 abbrev pub IsFresh : State → List Fresh → Piece → Type 0
 IsFresh t fresh p = (f : Fresh) × IsOneOf fresh f × (f.block ≡ p.block) × (f.bytes.items ≡ bytes_of t p.content) × (p.size ≡ length f.bytes.items)
 
--- From a state s that has this catalog a commit leads to t. It is in order, and its catalog draws t; what was named has the same bytes in t; what it names anew are these blocks with the bytes of t; and each hop of t has a path. What is in flight stays so.
+-- From a state s that has this catalog a commit leads to t. It is in order, and its catalog draws t; what was named and is so still has the same bytes in t; what it names anew are these blocks with the bytes of t; a state part that its catalog doesn't name is empty in t; and each hop of t has a path. What is in flight stays so.
 pub record Leads (cat : Entered) (s t : State) (own : Commit) (fresh : List Fresh) : Type 0 where
   pub fits : Fits own
   pub allowed : allows cat own ≡ true
@@ -42,8 +42,9 @@ pub record Leads (cat : Entered) (s t : State) (own : Commit) (fresh : List Fres
   pub reached : IsReachable t
   pub flights : flights_of t ≡ flights_of s
   pub like : drawn (applied cat own) ≡ sketch (ended t)
-  pub stay : (p : Piece) → IsNamed cat p → bytes_of (ended t) p.content ≡ bytes_of (ended s) p.content
+  pub stay : (p : Piece) → IsNamed cat p → IsNamed (applied cat own) p → bytes_of (ended t) p.content ≡ bytes_of (ended s) p.content
   pub named : (p : Piece) → IsNamed (applied cat own) p → IsNamed cat p ⊎ IsFresh (ended t) fresh p
+  pub empty : AreEmpty (applied cat own) (ended t)
   pub paths : (c : ℕ) (h : Span) → IsOneOf (hops (ended t) c) h → HasPath (kept_at (ended t) c).shelf h.from h.to
 
 -- Blocks are those that the commit brings, each once, and none is named by the catalog.

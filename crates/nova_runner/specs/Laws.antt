@@ -12,8 +12,11 @@ use Rattle.nova_commit.specs.declared.commit.Commit.TheVariants as commit
 use Rattle.nova_block.specs.Files.{HoldsBlock}
 use Rattle.nova_row_codec.specs.Written.{IsBytes}
 use Rattle.nova_channel.specs.Reading.{block_file}
-use Rattle.nova_meta.specs.Named.{Channel}
-use Rattle.nova_machine.specs.Workflow.{Workflow, schema_in}
+use Rattle.nova_groups.specs.State.{StateValue}
+use Rattle.nova_state.specs.Sorts.{plan_sorts}
+use Rattle.nova_state_part.specs.Files.{HoldsPart}
+use Rattle.nova_meta.specs.Named.{Channel, State as StatePart}
+use Rattle.nova_machine.specs.Workflow.{Workflow, plan_in, schema_in}
 use Rattle.nova_machine.specs.State.{State, ended}
 use Rattle.nova_machine.specs.Steps.{Load, Step, Tick, after, load_delta}
 use Rattle.nova_machine.specs.Reachable.{IsMade, IsReachable}
@@ -54,6 +57,11 @@ StoredIsNotLost = (x : ℕ) (commits : List Commit) (cat : Entered) (files : Fil
 abbrev pub IsBlockOrLost : Type 0
 IsBlockOrLost = (flow : Workflow) (files : Files) (c from to block size : ℕ) → IfSome (files (block_file block)) IsBytes →
     ((d : DeltaValue) × HoldsBlock (schema_in flow c) size (files (block_file block)) d) ⊎ IsLost flow files (record { content = Channel c from to; block = block; size = size })
+
+-- so it is with the file of a state part
+abbrev pub IsPartOrLost : Type 0
+IsPartOrLost = (flow : Workflow) (files : Files) (t part block size : ℕ) → IfSome (files (block_file block)) IsBytes →
+    ((st : StateValue) × HoldsPart (plan_sorts (plan_in flow t).plan) size (files (block_file block)) st) ⊎ IsLost flow files (record { content = StatePart t part; block = block; size = size })
 
 -- so files that stood for a state go on to stand for one where no block is lost
 abbrev pub NoLossIsKept : Type 0

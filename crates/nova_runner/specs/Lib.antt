@@ -15,5 +15,6 @@ pub mod Making
 pub mod Reading
 pub mod Laws
 pub mod LoadLaws
+pub mod RunFiles
 pub mod Runs
 pub mod RunLaws

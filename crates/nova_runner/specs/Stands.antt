@@ -7,6 +7,8 @@ use Rattle.nova_path.specs.Lists.{IsOneOf}
 use Rattle.nova_path.specs.Shelf.{Span, HasPath}
 use Rattle.nova_path.specs.Intervals.{spans}
 use Rattle.nova_block.specs.Files.{DamagedAt}
+use Rattle.nova_state.specs.Sorts.{plan_sorts}
+use Rattle.nova_state_part.specs.Files.{DamagedPartAt}
 use Rattle.nova_channel.specs.Reading.{block_file}
 use Rattle.nova_commit.specs.Commits.{commit_bytes}
 use Rattle.nova_commit.specs.declared.commit.Commit.{Commit}
@@ -15,12 +17,12 @@ use Rattle.nova_meta.specs.declared.captured.Captured.{Captured}
 use Rattle.nova_meta.specs.declared.progress.Progress.{Progress}
 use Rattle.nova_meta.specs.Catalog.{Entered, Shelved}
 use Rattle.nova_meta.specs.Named.{Content, Channel, State as StatePart, IsCatalogOf}
-use Rattle.nova_machine.specs.Workflow.{Workflow, schema_in}
+use Rattle.nova_machine.specs.Workflow.{Workflow, plan_in, schema_in}
 use Rattle.nova_machine.specs.State.{State, Kept, Done, Capture, ended, kept_at}
 use Rattle.nova_machine.specs.Needed.{hops}
 use Rattle.nova_runner.specs.Texts.{HasFlow}
 use Rattle.nova_runner.specs.Workflow.{wiring_of}
-use Rattle.nova_runner.specs.Files.{Piece, IsNamed, IsStored, journal_file}
+use Rattle.nova_runner.specs.Files.{AreEmpty, Piece, IsNamed, IsStored, journal_file}
 
 -- of a channel: its version, and the spans that have a block
 pub record Drawn : Type 0 where
@@ -72,20 +74,21 @@ pub record Agrees (commits : List Commit) (cat : Entered) (s : State) : Type 0 w
   pub catalog : IsCatalogOf (wiring_of s.flow) commits cat
   pub same : drawn cat ≡ sketch s
 
--- the file of a channel's block is no block of its size
+-- the file is no block of its size, or no part of a state of its task
 abbrev pub IsLostAs : Workflow → Option (List ℕ) → ℕ → Content → Type 0
 IsLostAs flow file size (Channel c from to) = (at : ℕ) × DamagedAt (schema_in flow c) size file at
-IsLostAs flow file size (StatePart t part) = ⊥
+IsLostAs flow file size (StatePart t part) = (at : ℕ) × DamagedPartAt (plan_sorts (plan_in flow t).plan) size file at
 
 abbrev pub IsLost : Workflow → Files → Piece → Type 0
 IsLost flow files p = IsLostAs flow (files (block_file p.block)) p.size p.content
 
--- Files stand for a state by a generation, commits and their catalog, but for lost blocks: each block that is named has the state's bytes, or is lost. A session over them goes on until a step reads a lost one.
+-- Files stand for a state by a generation, commits and their catalog, but for lost blocks: each block and state part that is named has the state's bytes, or is lost. A session over them goes on until a step reads a lost one.
 pub record StandsBut (x : ℕ) (commits : List Commit) (cat : Entered) (files : Files) (s : State) : Type 0 where
   pub marked : IsMark files (Some x)
   pub log : IsLog (map commit_bytes commits) (files (journal_file x))
   pub agrees : Agrees commits cat s
   pub stored : (p : Piece) → IsNamed cat p → IsStored files s p ⊎ IsLost s.flow files p
+  pub empty : AreEmpty cat s
   pub paths : (c : ℕ) (h : Span) → IsOneOf (hops s c) h → HasPath (kept_at s c).shelf h.from h.to
 
 -- the same where no block is lost

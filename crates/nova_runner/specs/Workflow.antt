@@ -1,12 +1,10 @@
 -- What a catalog knows of a workflow, and what each workflow that a text says keeps.
-use Rattle.std.specs.Prelude.{◌≡◌, List, [], ◌∷◌, ℕ, ◌<◌, ◌≤◌, Bool, true, false, length, map, Option, Some, None}
+use Rattle.std.specs.Prelude.{◌≡◌, List, [], ◌∷◌, ℕ, ◌<◌, ◌≤◌, length, map, Option, Some, None}
 use Rattle.nova_value.specs.Rows.{IsShape}
 use Rattle.nova_workflow.specs.declared.flow.Channel.{Channel}
 use Rattle.nova_workflow.specs.declared.flow.Task.{Task}
 use Rattle.nova_workflow.specs.declared.flow.Trigger.{Trigger}
 use Rattle.nova_workflow.specs.declared.flow.Trigger.TheVariants.{OnData, Every, After}
-use Rattle.nova_pig_pattern.specs.declared.task.PatternKind.{PatternKind}
-use Rattle.nova_pig_pattern.specs.declared.task.PatternKind.TheVariants.{NonIncremental, Stateless, Lookup, Stateful}
 use Rattle.nova_meta.specs.declared.wiring.Wire.{Wire}
 use Rattle.nova_meta.specs.declared.wiring.Wiring.{Wiring}
 use Rattle.nova_meta.specs.Wired as catalog
@@ -15,6 +13,7 @@ use Rattle.nova_machine.specs.Workflow.{Workflow, TaskPlan, is_based, schema_in}
 use Rattle.nova_machine.specs.Sound.{IsWired}
 use Rattle.nova_machine.specs.Keeping.{RunsKeep}
 use Rattle.nova_machine.specs.RunLaws.{IsOwned}
+pub use Rattle.nova_execution.specs.Groups.{keeps_state}
 pub use Rattle.nova_execution.specs.Reads.{edge_of}
 use Rattle.nova_histories.specs.Planned.{IsPlannedFlow}
 use Rattle.nova_runner.specs.Texts.{HasFlow}
@@ -26,12 +25,6 @@ abbrev pub named_by : Trigger → Option ℕ
 named_by OnData = None
 named_by (Every period) = None
 named_by (After task) = Some task
-
-abbrev pub keeps_state : PatternKind → Bool
-keeps_state NonIncremental = false
-keeps_state Stateless = false
-keeps_state Lookup = false
-keeps_state Stateful = true
 
 abbrev pub wire_of : Task → TaskPlan → Wire
 wire_of t p = record { inputs = map edge_of t.inputs; output = t.output; based = t.based; after = named_by t.trigger; stateful = keeps_state p.pattern }

@@ -1,5 +1,5 @@
 //! What holds of files and stores, whatever commands there are.
-ghost use Rattle.nova_runner.specs.Laws.{CommitsLead, DecidingFilesDecide, IsBlockOrLost, LoadsLead, NoLossIsKept, NoStepDamage, SettledImagesStand, StoredIsNotLost, TicksLead};
+ghost use Rattle.nova_runner.specs.Laws.{CommitsLead, DecidingFilesDecide, IsBlockOrLost, IsPartOrLost, LoadsLead, NoLossIsKept, NoStepDamage, SettledImagesStand, StoredIsNotLost, TicksLead};
 ghost use Rattle.nova_runner.specs.LoadLaws.{LoadsBring, LoadsDraw};
 ghost use Rattle.nova_runner.specs.RunLaws.{RunsLead};
 
@@ -37,10 +37,11 @@ pub fn no_step_tells_damage()
     ensures { NoStepDamage }
 {}
 
-/// A block is stored or lost and not both, so files over which no block is lost go on to stand for a
-/// state; and where a block's file is none of its size it is lost.
+/// A block or state part is stored or lost and not both, so files over which none is lost go on to
+/// stand for a state; and where its file is none of its size it is lost.
 pub fn what_stands_stays()
     ensures apart { StoredIsNotLost }
     ensures lost { IsBlockOrLost }
+    ensures lost_part { IsPartOrLost }
     ensures kept { NoLossIsKept }
 {}

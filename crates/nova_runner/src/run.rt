@@ -1,28 +1,30 @@
 //! A run.
-ghost use Rattle.std.specs.Prelude.{◌≡◌, ◌&&◌, nat_lt, ◌+◌, ◌<◌, ◌≤◌, ℕ, true, false, length, Some, IfOk, IfErr, IsTrue, MatchResult, OnOk};
+ghost use Rattle.std.specs.Prelude.{◌≡◌, ◌&&◌, nat_lt, ◌+◌, ◌<◌, ◌≤◌, ◌^◌, ℕ, true, false, is_some, length, IfOk, IfErr, IsTrue, MatchResult, OnOk};
+ghost use Rattle.std.specs.Option.{option_map};
 ghost use Rattle.nova_outside.specs.History.{current};
-ghost use Rattle.nova_delta.specs.Merge.{DeltaValue};
 ghost use Rattle.nova_row_codec.specs.Spelling.{spelling_of};
 ghost use Rattle.nova_commit.specs.Commits.{HasSpelling};
-ghost use Rattle.nova_channel.specs.Reading.{ReadCause, block_file};
-ghost use Rattle.nova_machine.specs.Workflow.{output_in, schema_in};
+ghost use Rattle.nova_channel.specs.Reading.{ReadCause};
+ghost use Rattle.nova_machine.specs.Workflow.{output_in, plan_in};
 ghost use Rattle.nova_machine.specs.Steps.{Run};
 ghost use Rattle.nova_meta.specs.Catalog.{bound, progress_at, shelf_at};
-ghost use Rattle.nova_execution.specs.Reads.{RunTold};
-ghost use Rattle.nova_runner.specs.Acts.{IsFull, IsStepDamage, newest_reads, read_size};
+ghost use Rattle.nova_execution.specs.Damage.{ExecutionTold};
+ghost use Rattle.nova_execution.specs.declared.made.Made.{Made};
+ghost use Rattle.nova_runner.specs.Acts.{IsFull, IsStepDamage, keeps_in, kept_spelling, newest_reads, parts_of, read_size};
 ghost use Rattle.nova_runner.specs.Beginning.{captured_in};
 ghost use Rattle.nova_runner.specs.Committing.{ReadsOn, Touched};
-ghost use Rattle.nova_runner.specs.Runs.{GivesRun, IsGiven, IsPreparedFor, RunFull, RunReady, StopDamage, read_stop, run_commit, run_counters};
+ghost use Rattle.nova_runner.specs.RunFiles.{AreRunFiles, HasRunFiles};
+ghost use Rattle.nova_runner.specs.Runs.{GivesRun, IsGiven, IsPreparedFor, RunFull, RunReady, StopDamage, made_commit, read_stop, run_commit, run_counters};
 ghost use Rattle.nova_runner.specs.Steps.{AsksRun, Does, InHost, IsNoFailedCall, IsStopFull, StopCause, Stops, silent, why_of};
 
 use crate::ready::{Fresh, Ready};
 use crate::stop::Stopped;
 use crate::store::Store;
 use nova_block::{BlockFault, encode};
-use nova_delta::Delta;
-use nova_execution::execute;
+use nova_execution::{Made, execute};
+use nova_group_codec::encode as encode_state;
 use nova_journal::frame;
-use nova_meta::{Captured, Commit, MetaFault, encode_commit};
+use nova_meta::{Captured, Commit, MetaFault, PartFile, encode_commit};
 use nova_outside::Host;
 use nova_trigger::capture;
 use sqlite_items::Items;
@@ -31,22 +33,41 @@ use std::alloc::{AllocError, Global};
 /// No journal passes this length, and no counter this number.
 const LIMIT: u64 = 1 << 62;
 
-/// How many bytes the frame of a run's commit has without those of its versions.
+/// How many bytes the frame of a run's commit has without those of its versions and of its part.
 const RUN_FRAME: u64 = 54;
 
+/// How many bytes the part of a state has in a run's commit.
+const PART_FRAME: u64 = 20;
+
+/// The files of a run with their bytes, how long its block is, and the parts of its commit.
+#[derive(Drop)]
+struct RunFiles {
+    fresh: Vec<Fresh>,
+    size: u64,
+    parts: Items<PartFile>,
+}
+
 impl Store {
-    /// Whether one run more of a task may be counted, and one block more numbered.
+    /// How many parts of its state a run of a task writes.
+    fn part_count(&self, task: u32) -> u64
+        requires { task < length self.now.flow.tasks }
+        ensures { result ≡ length (parts_of (keeps_in self.now.flow task) self.now.catalog.next 0) }
+    {
+        if self.flow.keeps_state(task) { 1 } else { 0 }
+    }
+
+    /// Whether one run more of a task may be counted, and its block and its part numbered.
     fn may_count(&self, task: u32) -> bool
         requires { task < length self.now.flow.tasks }
-        ensures { result ≡ (nat_lt (progress_at self.now.catalog task).runs bound && nat_lt self.now.catalog.next bound) }
+        ensures { result ≡ (nat_lt (progress_at self.now.catalog task).runs bound && nat_lt (self.now.catalog.next + length (parts_of (keeps_in self.now.flow task) self.now.catalog.next 0)) bound) }
     {
-        self.catalog.runs(task) < LIMIT && self.catalog.next_block() < LIMIT
+        self.catalog.runs(task) < LIMIT && self.catalog.next_block() < LIMIT - self.part_count(task)
     }
 
     /// Whether each number that a run counts up has room.
     fn has_counters(&self, task: u32) -> bool
         requires { task < length self.now.flow.tasks }
-        ensures { result ≡ run_counters self.now.catalog task }
+        ensures { result ≡ run_counters self.now.catalog task (keeps_in self.now.flow task) }
     {
         self.catalog.version(self.flow.output(task)) < LIMIT && self.may_count(task)
     }
@@ -55,11 +76,12 @@ impl Store {
     /// sizes. It takes no memory.
     fn may_run(&self, task: u32) -> bool
         requires { task < length self.now.flow.tasks }
-        ensures full { result ≡ false → IsFull self.now.journal.length self.now.catalog (run_commit self.now task 0) }
-        ensures room { result ≡ true → IsFull self.now.journal.length self.now.catalog (run_commit self.now task 0) → ⊥ }
+        ensures full { result ≡ false → IsFull self.now.journal.length self.now.catalog (run_commit self.now task 0 0) }
+        ensures room { result ≡ true → IsFull self.now.journal.length self.now.catalog (run_commit self.now task 0 0) → ⊥ }
     {
         let versions = 8 * self.flow.input_count(task) as u64;
-        self.journal.length() <= LIMIT - RUN_FRAME - versions && self.has_counters(task)
+        let parts = PART_FRAME * self.part_count(task);
+        self.journal.length() <= LIMIT - RUN_FRAME - versions - parts && self.has_counters(task)
     }
 
     /// What a run captures that begins now.
@@ -70,19 +92,20 @@ impl Store {
         capture(self.flow.flow(), &self.catalog, &self.flight, task)
     }
 
-    /// The block that a run makes which captured this.
-    fn run_block<H: Host>(
+    /// What a run makes which captured this.
+    fn made<H: Host>(
         &self,
         alloc: Global,
         host: &mut H,
         task: u32,
         run: &Captured,
-    ) -> Result<Delta, BlockFault>
+    ) -> Result<Made, BlockFault>
         requires in_range { task < length self.now.flow.tasks }
         requires captured { run.now ≡ captured_in self.now task }
-        ensures made { IfOk result (λ d. GivesRun H.is_honest self.now task d (H.history host.old)) }
+        ensures made { IfOk result (λ x. GivesRun H.is_honest self.now task x (H.history host.old)) }
         ensures given { IsTrue H.is_honest → IfOk result (IsGiven self.now task (current (H.history host.old))) }
-        ensures told { IsTrue H.is_honest → IfErr result (RunTold self.now.flow.channels self.now.catalog (current (H.history host.old)) (newest_reads self.now.catalog task)) }
+        ensures keeps { IfOk result (λ x. is_some x.state ≡ keeps_in self.now.flow task) }
+        ensures told { IsTrue H.is_honest → IfErr result (ExecutionTold self.now.flow.channels (plan_in self.now.flow task) self.now.catalog (current (H.history host.old)) task (newest_reads self.now.catalog task)) }
         ensures undamaged { IsTrue H.is_honest → OnOk result ((file at : ℕ) → IsStepDamage self.now.flow self.now.catalog (current (H.history host.old)) (Run task) file at → ⊥) }
         ensures cause { IfErr result (ReadCause (H.disk_faults host.old) (H.disk_faults host.new)) }
         ensures same { IsTrue H.is_honest → H.history host.new ≡ H.history host.old }
@@ -107,6 +130,32 @@ impl Store {
         }
     }
 
+    /// The files of what a run made, and the parts that its commit names.
+    fn run_files(&self, alloc: Global, made: &Made) -> Result<RunFiles, AllocError>
+        ensures files { IfOk result (λ r. AreRunFiles self.now.catalog.next made.now.block made.now.state r.fresh.items) }
+        ensures size { IfOk result (λ r. r.size ≡ length (spelling_of made.now.block)) }
+        ensures parts { IfOk result (λ r. r.parts ≡ parts_of (is_some made.now.state) self.now.catalog.next (length (kept_spelling made.now.state))) }
+        ensures wide { IfOk result (λ r. length (kept_spelling made.now.state) < 2 ^ 64) }
+    {
+        let block = self.catalog.next_block();
+        let bytes = encode(alloc, &made.block)?;
+        let size = bytes.len() as u64;
+        let mut fresh = Vec::with_capacity(alloc, 2)?;
+        fresh.push(Fresh { block, bytes })?;
+        let mut parts = Items::new(alloc);
+        if let Some(state) = &made.state {
+            let block = block + 1;
+            let bytes = encode_state(alloc, state)?;
+            parts.push(PartFile {
+                part: 0,
+                block,
+                size: bytes.len() as u64,
+            })?;
+            fresh.push(Fresh { block, bytes })?;
+        }
+        Ok(RunFiles { fresh, size, parts })
+    }
+
     /// Takes all the memory of a run that has room but for the size of its block; None where that
     /// has none.
     fn run_ready(
@@ -114,15 +163,16 @@ impl Store {
         alloc: Global,
         task: u32,
         run: &Captured,
-        block: &Delta,
-    ) -> Result<Option<(Fresh, Ready)>, AllocError>
+        made: &Made,
+    ) -> Result<Option<(Vec<Fresh>, Ready)>, AllocError>
         requires in_range { task < length self.now.flow.tasks }
         requires captured { run.now ≡ captured_in self.now task }
-        requires room { IsFull self.now.journal.length self.now.catalog (run_commit self.now task 0) → ⊥ }
-        ensures { IfOk result (RunReady self.now task block.now) }
+        requires keeps { is_some made.now.state ≡ keeps_in self.now.flow task }
+        requires room { IsFull self.now.journal.length self.now.catalog (run_commit self.now task 0 0) → ⊥ }
+        ensures { IfOk result (λ o. RunReady self.now task made.now (option_map (λ m. (m.0.items, m.1)) o)) }
     {
-        let bytes = encode(alloc, block)?;
-        let number = self.catalog.next_block();
+        let RunFiles { fresh, size, parts } = self.run_files(alloc, made)?;
+        let block = self.catalog.next_block();
         let clock = self.catalog.moment();
         let versions = Items::from_slice(alloc, run.versions.as_slice())?;
         let commit = Commit::Run {
@@ -130,18 +180,12 @@ impl Store {
             versions,
             moment: clock,
             seen: run.seen,
-            block: number,
-            size: bytes.len() as u64,
-            parts: Items::new(alloc),
+            block,
+            size,
+            parts,
         };
         match self.ready_if_allowed(alloc, &commit)? {
-            Some(ready) => Ok(Some((
-                Fresh {
-                    block: number,
-                    bytes,
-                },
-                ready,
-            ))),
+            Some(ready) => Ok(Some((fresh, ready))),
             None => Ok(None),
         }
     }
@@ -170,16 +214,16 @@ impl Store {
         ensures step { MatchResult result
             (λ made. Does H.is_honest (AsksRun task) silent self made.0 (H.history host.old) (H.history host.new))
             (λ stop. Stops (why_of stop) H.is_honest (AsksRun task) self (H.history host.old) (H.history host.new)) }
-        // Whatever the files stand for: it changes only what its commit names, the journal has the commit, and the next block's file the block that the task makes of those that the files have.
-        ensures read { IfOk result (λ made. (d : DeltaValue) × (IsTrue H.is_honest → IsGiven self task (current (H.history host.old)) d) × ReadsOn H.is_honest self made.0 (run_commit self task (length (spelling_of d))) (H.history host.old) (H.history host.new) × (IsTrue H.is_honest → current (H.history host.new) (block_file self.catalog.next) ≡ Some (spelling_of d))) }
-        ensures touched { IsTrue H.is_honest → Touched self (run_commit self task 0) (H.history host.old) (H.history host.new) }
+        // Whatever the files stand for: it changes only what its commit names, the journal has the commit, and the files behind it have the block and the state that the task makes of those that the files have.
+        ensures read { IfOk result (λ done. (x : Made) × (IsTrue H.is_honest → IsGiven self task (current (H.history host.old)) x) × ReadsOn H.is_honest self done.0 (made_commit self task x) (H.history host.old) (H.history host.new) × (IsTrue H.is_honest → HasRunFiles self.catalog.next x.block x.state (current (H.history host.new)))) }
+        ensures touched { IsTrue H.is_honest → Touched self (run_commit self task 0 0) (H.history host.old) (H.history host.new) }
         ensures in_host { IfOk result (λ made. InHost H.is_honest made.0 (H.history host.new)) }
         ensures flow { IfOk result (λ made. made.0.flow ≡ self.flow) }
         ensures flight { IfOk result (λ made. made.0.flight ≡ self.flight) }
         ensures version { IfOk result (λ made. made.1 ≡ (shelf_at self.catalog (output_in self.flow task)).version + 1) }
         // Full only where its commit has no room, whatever its block is or for the one that it makes; where that is so whatever its block is, before any memory is taken and any file is called.
         ensures full { IfErr result (λ stop. IsStopFull stop → RunFull H.is_honest self task (current (H.history host.old))) }
-        ensures room { IsFull self.journal.length self.catalog (run_commit self task 0) → MatchResult result (λ made. ⊥) IsStopFull × (host.new ≡ host.old) }
+        ensures room { IsFull self.journal.length self.catalog (run_commit self task 0 0) → MatchResult result (λ made. ⊥) IsStopFull × (host.new ≡ host.old) }
         // But for a failed call the files are as they were, so a store that is handed back is in the host still.
         ensures unchanged { IfErr result (λ stop. IsNoFailedCall stop → IsTrue H.is_honest → H.history host.new ≡ H.history host.old) }
         ensures cause { IfErr result (StopCause self (H.disk_faults host.old) (H.disk_faults host.new)) }
@@ -196,12 +240,12 @@ impl Store {
             });
         }
         let run = self.captured(task);
-        let block = match self.run_block(alloc, host, task, &run) {
-            Ok(block) => block,
+        let made = match self.made(alloc, host, task, &run) {
+            Ok(made) => made,
             Err(fault) => return Err(self.not_read(fault)),
         };
-        let (fresh, ready) = match self.run_ready(alloc, task, &run, &block) {
-            Ok(Some(made)) => made,
+        let (fresh, ready) = match self.run_ready(alloc, task, &run, &made) {
+            Ok(Some(all)) => all,
             Ok(None) => {
                 return Err(Stopped::Full {
                     length: self.journal.length(),
@@ -210,7 +254,7 @@ impl Store {
             Err(_) => return Err(Stopped::NoMemory(self)),
         };
         let version = self.catalog.version(self.flow.output(task)) + 1;
-        match self.commit(host, &[fresh], ready) {
+        match self.commit(host, &fresh, ready) {
             Ok(store) => Ok((store, version)),
             Err(_) => Err(Stopped::Disk),
         }

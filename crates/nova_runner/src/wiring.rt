@@ -1,13 +1,12 @@
 //! What a catalog knows of a workflow.
 ghost use Rattle.std.specs.Prelude.{◌≡◌, map, IfOk};
 ghost use Rattle.nova_workflow.specs.declared.flow.Channel.{Channel as Seen};
-ghost use Rattle.nova_admit.specs.TaskPlans.{kind_of};
 ghost use Rattle.nova_machine.specs.Workflow as machine;
 ghost use Rattle.nova_meta.specs.Wired.{IsWiring};
 ghost use Rattle.nova_runner.specs.Texts.{task_plan};
 ghost use Rattle.nova_runner.specs.Workflow as spec;
 
-use crate::workflow::Workflow;
+use crate::workflow::{Workflow, keeps_state};
 use nova_admit::{Admitted, Pattern};
 use nova_meta::{Edge, Wire, Wiring};
 use nova_workflow::{Channel, Input, Mode, Task, Trigger};
@@ -57,18 +56,6 @@ fn named_by(trigger: Trigger) -> Option<u32>
         Trigger::OnData => None,
         Trigger::Every(_) => None,
         Trigger::After(task) => Some(task),
-    }
-}
-
-/// Whether runs of the pattern keep state.
-fn keeps_state(pattern: &Pattern) -> bool
-    ensures { result ≡ spec.keeps_state (kind_of pattern.now) }
-{
-    match pattern {
-        Pattern::N(_) => false,
-        Pattern::S(_) => false,
-        Pattern::L(_) => false,
-        Pattern::F(_) => true,
     }
 }
 

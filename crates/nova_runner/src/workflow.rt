@@ -5,8 +5,10 @@ ghost use Rattle.nova_workflow.specs.declared.flow.Channel.{Channel as Seen};
 ghost use Rattle.nova_workflow.specs.declared.flow.Task.{Task as SeenTask};
 ghost use Rattle.nova_pig_algebra.specs.Plan.{IsPlan};
 ghost use Rattle.nova_admit.specs.Flows.{HavePatterns};
-ghost use Rattle.nova_admit.specs.TaskPlans.{plan_of};
+ghost use Rattle.nova_admit.specs.TaskPlans.{kind_of, plan_of};
 ghost use Rattle.nova_machine.specs.Workflow.{channel_in, output_in, schema_in, task_in};
+ghost use Rattle.nova_execution.specs.Groups.{keeps_state as pattern_keeps};
+ghost use Rattle.nova_runner.specs.Acts.{keeps_in};
 ghost use Rattle.nova_runner.specs.Flights.{flow_of};
 ghost use Rattle.nova_runner.specs.Texts.{Admits, ArePlans, HasFlow, Says, workflow_of};
 ghost use Rattle.nova_runner.specs.Workflow.{FlowsAreAdmitted};
@@ -106,6 +108,18 @@ pub fn read_flow(alloc: Global, text: &[u8]) -> Result<Result<Workflow, TextFaul
             Ok(Ok(Workflow { text, admitted }))
         }
         Err(fault) => Ok(Err(fault)),
+    }
+}
+
+/// Whether runs of the pattern keep state.
+pub(crate) fn keeps_state(pattern: &Pattern) -> bool
+    ensures { result ≡ pattern_keeps (kind_of pattern.now) }
+{
+    match pattern {
+        Pattern::N(_) => false,
+        Pattern::S(_) => false,
+        Pattern::L(_) => false,
+        Pattern::F(_) => true,
     }
 }
 
@@ -212,6 +226,14 @@ impl Workflow {
         let tasks = self.admitted.flow().tasks.as_slice();
         let task = &tasks[task as usize];
         task.inputs.len()
+    }
+
+    /// Whether runs of a task keep state.
+    pub(crate) fn keeps_state(&self, task: u32) -> bool
+        requires { task < length self.now.tasks }
+        ensures { result ≡ keeps_in self.now task }
+    {
+        keeps_state(self.admitted.pattern(task))
     }
 
     /// Whether a task writes a channel.

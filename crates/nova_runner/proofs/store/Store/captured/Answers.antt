@@ -1,4 +1,4 @@
-use Rattle.std.proofs.Common.{◌<◌, ◌≡◌, ◌∙◌, ap, length, sym, subst}
+use Rattle.std.proofs.Common.{sym, subst}
 use Rattle.nova_workflow.specs.declared.flow.Flow.{Flow}
 use Rattle.nova_trigger.specs.Due.{IsOneWorkflow}
 use Rattle.nova_runner.specs.Held.{Held}

@@ -6,39 +6,61 @@ use nova_mem::MemHost;
 use std::alloc::{AllocError, Global};
 use std::test::Fail;
 
-const SESSION: &str =
-    "load raw\n+1\t/a\t1\n.\nrun all\nshow tally\nload raw\n+2\t/a\t2\n.\nrun all\n";
+/// The sessions of two calls, the second of which opens the store that the first one left.
+const SESSION: &str = "load raw\n+1\t/a\t1\n.\nrun all\nrun count\nshow tally\n";
 
-/// The replies to the first command, to the first two, and to those that are whole in the first
-/// piece.
+const SESSION_BEHIND: &str = "load raw\n+2\t/a\t2\n.\nrun all\nrun count\nshow sums\n";
+
+/// The replies to the first command, to the first two and so on.
 const LOADED: &str = "loaded raw 1\n";
 
 const RAN: &str = "loaded raw 1\nran all 1\n";
 
-const FIRST: &str = "loaded raw 1\nran all 1\n+/a\t1\nshown tally 1 1\n";
+const COUNTED: &str = "loaded raw 1\nran all 1\nran count 1\n";
 
-const LOADED_AGAIN: &str = "loaded raw 1\nran all 1\n+/a\t1\nshown tally 1 1\nloaded raw 2\n";
+const SHOWN: &str = "loaded raw 1\nran all 1\nran count 1\n+/a\t1\nshown tally 1 1\n";
 
-const ALL: &str = "loaded raw 1\nran all 1\n+/a\t1\nshown tally 1 1\nloaded raw 2\nran all 2\n";
+const LOADED_AGAIN: &str =
+    "loaded raw 1\nran all 1\nran count 1\n+/a\t1\nshown tally 1 1\nloaded raw 2\n";
 
-/// What a later call is asked, and what it shows behind no command, one load, its run, and both of
-/// each.
-const LATER: &str = "show raw\nshow tally\n";
+const RAN_AGAIN: &str =
+    "loaded raw 1\nran all 1\nran count 1\n+/a\t1\nshown tally 1 1\nloaded raw 2\nran all 2\n";
 
-const NOTHING: &str = "shown raw 0 0\nshown tally 0 0\n";
+const COUNTED_AGAIN: &str =
+    "loaded raw 1\nran all 1\nran count 1\n+/a\t1\nshown tally 1 1\nloaded raw 2\nran all 2\nran count 2\n";
 
-const ONE_LOAD: &str = "+1\t/a\t1\nshown raw 1 1\nshown tally 0 0\n";
+const ALL: &str =
+    "loaded raw 1\nran all 1\nran count 1\n+/a\t1\nshown tally 1 1\nloaded raw 2\nran all 2\nran count 2\n+/a\t2\t3\t2\nshown sums 2 1\n";
 
-const ONE_RUN: &str = "+1\t/a\t1\nshown raw 1 1\n+/a\t1\nshown tally 1 1\n";
+/// What a later call is asked, which goes on from the state that the last whole run of `count` left,
+/// and what it shows behind no command, one load, a run of each task, and both of each.
+const LATER: &str = "show raw\nshow tally\nshow sums\nrun count\nshow sums\n";
 
-const TWO_LOADS: &str = "+1\t/a\t1\n+2\t/a\t2\nshown raw 2 2\n+/a\t1\nshown tally 1 1\n";
+const NOTHING: &str =
+    "shown raw 0 0\nshown tally 0 0\nshown sums 0 0\nran count 1\nshown sums 1 0\n";
 
-const TWO_RUNS: &str = "+1\t/a\t1\n+2\t/a\t2\nshown raw 2 2\n+/a\t2\nshown tally 2 1\n";
+const ONE_LOAD: &str =
+    "+1\t/a\t1\nshown raw 1 1\nshown tally 0 0\nshown sums 0 0\nran count 1\n+/a\t1\t1\t1\nshown sums 1 1\n";
+
+const ONE_RUN: &str =
+    "+1\t/a\t1\nshown raw 1 1\n+/a\t1\nshown tally 1 1\nshown sums 0 0\nran count 1\n+/a\t1\t1\t1\nshown sums 1 1\n";
+
+const ONE_COUNT: &str =
+    "+1\t/a\t1\nshown raw 1 1\n+/a\t1\nshown tally 1 1\n+/a\t1\t1\t1\nshown sums 1 1\nran count 2\n+/a\t1\t1\t1\nshown sums 2 1\n";
+
+const TWO_LOADS: &str =
+    "+1\t/a\t1\n+2\t/a\t2\nshown raw 2 2\n+/a\t1\nshown tally 1 1\n+/a\t1\t1\t1\nshown sums 1 1\nran count 2\n+/a\t2\t3\t2\nshown sums 2 1\n";
+
+const TWO_RUNS: &str =
+    "+1\t/a\t1\n+2\t/a\t2\nshown raw 2 2\n+/a\t2\nshown tally 2 1\n+/a\t1\t1\t1\nshown sums 1 1\nran count 2\n+/a\t2\t3\t2\nshown sums 2 1\n";
+
+const TWO_COUNTS: &str =
+    "+1\t/a\t1\n+2\t/a\t2\nshown raw 2 2\n+/a\t2\nshown tally 2 1\n+/a\t2\t3\t2\nshown sums 2 1\nran count 3\n+/a\t2\t3\t2\nshown sums 3 1\n";
 
 #[test]
 fn failed_read_ends_behind_whole_commands(rt: HostRuntime) -> Result<(), Fail> {
-    // the first piece ends inside the second load
-    let mut source = source_of(rt.alloc(), SESSION.as_bytes(), 50)?;
+    // the first piece ends inside the show
+    let mut source = source_of(rt.alloc(), SESSION.as_bytes(), 40)?;
     source.fail_at(1)?;
     let mut host = with_store(rt.alloc())?;
     assert_eq!(rt;
@@ -46,7 +68,7 @@ fn failed_read_ends_behind_whole_commands(rt: HostRuntime) -> Result<(), Fail> {
         2,
         "status"
     );
-    assert!(rt; replied(&host, FIRST), "replies");
+    assert!(rt; replied(&host, COUNTED), "replies");
     Ok(())
 }
 
@@ -77,26 +99,35 @@ fn may_show(lines: &[u8]) -> [&'static str; 2] {
         [NOTHING, ONE_LOAD]
     } else if lines.len() < RAN.len() {
         [ONE_LOAD, ONE_RUN]
-    } else if lines.len() < FIRST.len() {
-        [ONE_RUN, ONE_RUN]
+    } else if lines.len() < COUNTED.len() {
+        [ONE_RUN, ONE_COUNT]
+    } else if lines.len() < SHOWN.len() {
+        [ONE_COUNT, ONE_COUNT]
     } else if lines.len() < LOADED_AGAIN.len() {
-        [ONE_RUN, TWO_LOADS]
-    } else {
+        [ONE_COUNT, TWO_LOADS]
+    } else if lines.len() < RAN_AGAIN.len() {
         [TWO_LOADS, TWO_RUNS]
+    } else if lines.len() < COUNTED_AGAIN.len() {
+        [TWO_RUNS, TWO_COUNTS]
+    } else {
+        [TWO_COUNTS, TWO_COUNTS]
     }
 }
 
-/// What a call did of which the host's next call but so many failed.
+/// What two calls did of which the host's next call but so many failed.
 struct Outcome {
     status: u8,
     lines: Vec<u8>,
     host: MemHost,
 }
 
-fn session_where_fails(alloc: Global, calls: u64) -> Result<Outcome, AllocError> {
+fn sessions_where_fails(alloc: Global, calls: u64) -> Result<Outcome, AllocError> {
     let mut host = with_store(alloc)?;
     host.fail_at(host.calls().saturating_add(calls))?;
-    let status = run(alloc, &mut host, SESSION)?;
+    let mut status = run(alloc, &mut host, SESSION)?;
+    if status == 0 {
+        status = run(alloc, &mut host, SESSION_BEHIND)?;
+    }
     let lines = replies_behind(&host, READY.len()).to_vec(alloc)?;
     Ok(Outcome {
         status,
@@ -106,16 +137,16 @@ fn session_where_fails(alloc: Global, calls: u64) -> Result<Outcome, AllocError>
 }
 
 #[test]
-fn each_failed_call_leaves_a_front_of_the_session(rt: HostRuntime) -> Result<(), Fail> {
+fn each_failed_call_leaves_a_front_of_the_sessions(rt: HostRuntime) -> Result<(), Fail> {
     let mut of_replies = 0_u64;
     let mut of_files = 0_u64;
     let mut is_done = false;
-    for calls in 0..96 {
+    for calls in 0..192 {
         let Outcome {
             status,
             lines,
             mut host,
-        } = session_where_fails(rt.alloc(), calls)?;
+        } = sessions_where_fails(rt.alloc(), calls)?;
         assert!(rt;
             ALL.as_bytes().starts_with(&lines),
             "replies where call {calls} fails"
@@ -148,7 +179,7 @@ fn each_failed_call_leaves_a_front_of_the_session(rt: HostRuntime) -> Result<(),
     }
     assert!(rt; is_done, "in the end no call fails");
     assert!(rt; of_files > 8, "calls on files fail");
-    assert_eq!(rt; of_replies, 5, "each of the five replies fails once");
+    assert_eq!(rt; of_replies, 8, "each of the eight replies fails once");
     Ok(())
 }
 

@@ -3,12 +3,13 @@ use nova_engine::nova;
 use nova_mem::{MemHost, MemSource, MemSteady};
 use std::alloc::{AllocError, Global};
 
-/// The workflow of the channel `raw`, and of `tally`, which the task `all` computes of it.
+/// The workflow of the channel `raw`, of `tally`, which the task `all` computes of it, and of `sums`,
+/// which the grouping task `count` changes by what is new of it.
 pub const WORKFLOW: &str =
-    "[[channel]]\nname = \"raw\"\ncolumns = [\"id long\", \"url chararray\", \"ms long\"]\nkey = [\"id\"]\n[[channel]]\nname = \"tally\"\ncolumns = [\"url chararray\", \"n long\"]\nkey = [\"url\"]\n[[task]]\nname = \"all\"\nscript = \"r = LOAD 'raw'; g = GROUP r BY url; c = FOREACH g GENERATE group, COUNT(r); STORE c INTO 'tally';\"\ninputs = [\"raw ALL\"]\noutput = \"tally BASE\"\n";
+    "[[channel]]\nname = \"raw\"\ncolumns = [\"id long\", \"url chararray\", \"ms long\"]\nkey = [\"id\"]\n[[channel]]\nname = \"tally\"\ncolumns = [\"url chararray\", \"n long\"]\nkey = [\"url\"]\n[[channel]]\nname = \"sums\"\ncolumns = [\"url chararray\", \"n long\", \"total long\", \"worst long\"]\nkey = [\"url\"]\n[[task]]\nname = \"all\"\nscript = \"r = LOAD 'raw'; g = GROUP r BY url; c = FOREACH g GENERATE group, COUNT(r); STORE c INTO 'tally';\"\ninputs = [\"raw ALL\"]\noutput = \"tally BASE\"\n[[task]]\nname = \"count\"\nscript = \"r = LOAD 'raw'; g = GROUP r BY url; c = FOREACH g GENERATE group, COUNT(r), SUM(r.ms), MAX(r.ms); STORE c INTO 'sums';\"\ninputs = [\"raw NEW\"]\noutput = \"sums DELTA\"\n";
 
 /// The reply to `init`, which the host of a test holds before others.
-pub const READY: &str = "ready 2 1\n";
+pub const READY: &str = "ready 3 2\n";
 
 // The words of a command line.
 fn words_of(alloc: Global, words: &[&str]) -> Result<Vec<String>, AllocError> {
